@@ -1,0 +1,4 @@
+pub mod Clocks
+pub mod CommonFloors
+pub mod Greatest
+pub mod Rows

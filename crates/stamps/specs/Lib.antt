@@ -1,0 +1,10 @@
+pub mod Refusals
+pub mod Stamps
+pub mod Rows
+pub mod Checks
+pub mod Clocks
+pub mod Kinds
+pub mod BuiltKinds
+pub mod CommonFloors
+pub mod Outside
+pub mod Edges
