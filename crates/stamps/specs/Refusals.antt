@@ -1,5 +1,8 @@
--- The number of each refusal.
+-- The number of each refusal, and that a refusal changes nothing.
 use Prim.Native.Nat.{ℕ}
+use mathlib.Core.Path.{_≡_}
+use Rattle.std.specs.declared.result.Result.{Result}
+use Rattle.std.specs.declared.result.Result.the-variants.{Ok, Err}
 use Rattle.stamps.specs.declared.refusal.Refusal.{Refusal}
 use Rattle.stamps.specs.declared.refusal.Refusal.the-variants.{NotInLayout, NoSession, Unlawful, ReadingBehind, TableFull, OutboxFull, Early, End, NothingWaits, NoneFree, NotOpen, BadLayout, ShortCommand, UnknownLetter, LayoutMisplaced, ShortBuffer}
 
@@ -20,3 +23,8 @@ numberOf ShortCommand = 13
 numberOf UnknownLetter = 14
 numberOf LayoutMisplaced = 15
 numberOf ShortBuffer = 16
+
+-- where the answer is a refusal, the state is as it was
+abbrev pub RefusalKeeps : {A S : Type 0} → Result A Refusal → S → S → Type 0
+RefusalKeeps (Ok answer) before after = Unit {0}
+RefusalKeeps (Err why) before after = after ≡ before

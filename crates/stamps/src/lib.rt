@@ -13,3 +13,5 @@ pub mod refusal;
 pub mod row;
 pub mod site;
 pub mod stamp;
+#[cfg(test)]
+mod tests;

@@ -1,0 +1,20 @@
+// The vector, its invariant, and what it refuses.
+ghost use mathlib.Core.Path.{_≡_};
+ghost use Prim.Native.Nat.{_≤_};
+ghost use lib.ListN.{length};
+
+// There is no room for another item.
+#[derive(Clone, Copy, PartialEq, Eq, Debug)]
+pub struct Full;
+
+// The items are the first `len` cells; the cells after them hold anything.
+pub struct FixedVec<T, const N: usize> {
+    cells: [T; N],
+    len: usize,
+    ghost sized: { length cells ≡ N },
+    ghost fits: { len ≤ N },
+}
+
+impl<T: Copy, const N: usize> Copy for FixedVec<T, N> {}
+
+mod methods;

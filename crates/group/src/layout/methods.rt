@@ -1,0 +1,28 @@
+// The check of a draft, and questions to a checked layout.
+ghost use mathlib.Core.Path.{_≡_};
+ghost use Rattle.group.specs.Layouts.{countsOf, checkedCounts, hasServer};
+use super::Draft;
+use super::Layout;
+use stamps::refusal::Refusal;
+
+impl Draft {
+    // The checked layout of these counts; refused unless there are 2 to 4 sites and 1 to 4 partitions.
+    pub fn check(self) -> Result<Layout, Refusal>
+        ensures { λ r. ⌜ countsOf r ≡ checkedCounts (self .sites) (self .partitions) ⌝ }
+    {
+        let Draft { sites, partitions } = self;
+        match (sites, partitions) {
+            (2..=4, 1..=4) => Ok(Layout { sites, partitions }),
+            _ => Err(Refusal::BadLayout),
+        }
+    }
+}
+
+impl Layout {
+    // Whether the site has such a server.
+    pub fn has_server(&self, site: u8, partition: u8) -> bool
+        ensures { λ r. ⌜ r ≡ hasServer (now (self .entry) .sites) (now (self .entry) .partitions) site partition ⌝ }
+    {
+        site < self.sites && partition < self.partitions
+    }
+}

@@ -1,0 +1,2 @@
+pub mod Outboxes
+pub mod Servers

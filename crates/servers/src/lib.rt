@@ -1,0 +1,4 @@
+// One server: its clock and its outbox.
+pub mod entry;
+pub mod outbox;
+pub mod server;
