@@ -11,7 +11,10 @@ impl<T: Copy, const N: usize> FixedVec<T, N> {
     pub fn new(filler: T) -> Self
         ensures { λ r. ⌜ items r ≡ [] ⌝ }
     {
-        FixedVec { cells: [filler; N], len: 0 }
+        FixedVec {
+            cells: [filler; N],
+            len: 0,
+        }
     }
 
     pub fn len(&self) -> usize

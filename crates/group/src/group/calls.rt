@@ -17,7 +17,11 @@ impl<C: ClockRule, K: MarkKind> Group<C, K> {
     pub fn new(layout: Layout) -> Self
         ensures { λ r. ⌜ view r ≡ made (layout .sites) (layout .partitions) ⌝ }
     {
-        Group { layout, servers: [Server::new(); 16], kind: PhantomData }
+        Group {
+            layout,
+            servers: [Server::new(); 16],
+            kind: PhantomData,
+        }
     }
 
     // The physical clock of a server shows a new time.

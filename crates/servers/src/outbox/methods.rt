@@ -12,7 +12,9 @@ impl Outbox {
     pub fn new() -> Outbox
         ensures { λ r. ⌜ waiting r ≡ [] ⌝ }
     {
-        Outbox { entries: FixedVec::new(Entry::Heartbeat(Stamp::zero())) }
+        Outbox {
+            entries: FixedVec::new(Entry::Heartbeat(Stamp::zero())),
+        }
     }
 
     // Whether some other site has as many entries still to take as are kept for it.

@@ -1,0 +1,5 @@
+// The step script: bytes to commands, answers to lines.
+pub mod answer;
+pub mod command;
+pub mod line;
+pub mod reader;
