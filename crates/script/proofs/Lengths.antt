@@ -10,7 +10,12 @@ use lib.Signed.{ltZ}
 use Rattle.std.specs.Written.{decimal, signed}
 use Rattle.std.proofs.shelf.Tests.{ltb-true, true≢false}
 use Rattle.std.proofs.shelf.Lists.{append-assoc, append-nil, length-append, length-take-le, take-all, take-at, take-more}
-use Rattle.script.specs.Lines.{textOf, onto}
+use lib.Dec.{lit<}
+use Rattle.std.proofs.shelf.Decimals.{length-decimal-le}
+use Rattle.stamps.specs.declared.refusal.Refusal.{Refusal}
+use Rattle.stamps.specs.declared.refusal.Refusal.the-variants.{NotInLayout, NoSession, Unlawful, ReadingBehind, TableFull, OutboxFull, Early, End, NothingWaits, NoneFree, NotOpen, BadLayout, ShortCommand, UnknownLetter, LayoutMisplaced, ShortBuffer}
+use Rattle.stamps.specs.Refusals.{numberOf}
+use Rattle.script.specs.Lines.{textOf, onto, printed, refused}
 use Rattle.script.specs.declared.line.Line.{Line}
 
 pub text-fits : (line : Line) → length (textOf line) ≤ 96
@@ -51,3 +56,28 @@ signed-below (negsuc n) h = refl
 pub signed-above : (z : ℤ) → ltZ z (pos 0) ≡ false → signed z ≡ decimal (natAbs z)
 signed-above (pos n) h = refl
 signed-above (negsuc n) h = absurd (true≢false h)
+
+-- the number of a refusal has at most two digits
+number-small : (why : Refusal) → numberOf why < 100
+number-small NotInLayout = lit< tt
+number-small NoSession = lit< tt
+number-small Unlawful = lit< tt
+number-small ReadingBehind = lit< tt
+number-small TableFull = lit< tt
+number-small OutboxFull = lit< tt
+number-small Early = lit< tt
+number-small End = lit< tt
+number-small NothingWaits = lit< tt
+number-small NoneFree = lit< tt
+number-small NotOpen = lit< tt
+number-small BadLayout = lit< tt
+number-small ShortCommand = lit< tt
+number-small UnknownLetter = lit< tt
+number-small LayoutMisplaced = lit< tt
+number-small ShortBuffer = lit< tt
+
+pub refusal-short : (why : Refusal) → length (printed (refused why)) ≤ 40
+refusal-short why =
+    let small = number-small why in
+    let digits = length-decimal-le 2 (numberOf why) (omega arith) (omega arith) (omega arith) in
+    omega arith

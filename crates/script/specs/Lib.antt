@@ -1,2 +1,4 @@
 pub mod Commands
 pub mod Lines
+pub mod Steps
+pub mod Listings

@@ -2,4 +2,6 @@
 pub mod answer;
 pub mod command;
 pub mod line;
+pub mod listing;
+pub mod perform;
 pub mod reader;

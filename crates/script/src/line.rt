@@ -12,3 +12,6 @@ pub struct Line {
 impl Copy for Line {}
 
 mod methods;
+mod writes;
+
+pub(crate) use writes::write_line;

@@ -1,8 +1,10 @@
 // The pieces that a line is made of.
 ghost use mathlib.Core.Path.{_≡_};
 ghost use mathlib.Core.List.{[], _∷_};
+ghost use Prim.Native.Nat.{_≤_};
+ghost use lib.ListN.{length};
 ghost use Rattle.std.specs.Written.{decimal as digitsOf, signed as signedDigits};
-ghost use Rattle.script.specs.Lines.{textOf, onto, printed, said};
+ghost use Rattle.script.specs.Lines.{textOf, onto, printed, said, stamped};
 use super::Line;
 use crate::answer::Answer;
 use fixed_vec::FixedVec;
@@ -49,7 +51,8 @@ impl Line {
 
     // A number in decimal digits, with a minus in front if it is below 0.
     pub fn signed(&mut self, number: i64)
-        ensures { λ _. ⌜ textOf (now (self .exit)) ≡ onto (textOf (now (self .entry))) (signedDigits number) ⌝ }
+        ensures text { λ _. ⌜ textOf (now (self .exit)) ≡ onto (textOf (now (self .entry))) (signedDigits number) ⌝ }
+        ensures short { λ _. ⌜ length (signedDigits number) ≤ 20 ⌝ }
     {
         if number < 0 {
             self.byte(b'-');
@@ -58,7 +61,8 @@ impl Line {
     }
 
     pub fn answer(&mut self, answer: Answer)
-        ensures { λ _. ⌜ textOf (now (self .exit)) ≡ onto (textOf (now (self .entry))) (printed (said answer)) ⌝ }
+        ensures text { λ _. ⌜ textOf (now (self .exit)) ≡ onto (textOf (now (self .entry))) (printed (said answer)) ⌝ }
+        ensures short { λ _. ⌜ length (printed (said answer)) ≤ 40 ⌝ }
     {
         match answer {
             Answer::Done => self.text(b"ok"),
@@ -73,7 +77,8 @@ impl Line {
 
     // A stamp as its time and its count.
     fn stamp(&mut self, stamp: Stamp)
-        ensures { λ _. ⌜ textOf (now (self .exit)) ≡ onto (textOf (now (self .entry))) (printed (said (Answer.Stamped stamp))) ⌝ }
+        ensures text { λ _. ⌜ textOf (now (self .exit)) ≡ onto (textOf (now (self .entry))) (printed (stamped (stamp .value))) ⌝ }
+        ensures short { λ _. ⌜ length (printed (stamped (stamp .value))) ≤ 40 ⌝ }
     {
         self.decimal(stamp.time());
         self.byte(b'.');
