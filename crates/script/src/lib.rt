@@ -1,7 +1,9 @@
 // The step script: bytes to commands, answers to lines.
 pub mod answer;
+pub mod any_group;
 pub mod command;
 pub mod line;
 pub mod listing;
 pub mod perform;
 pub mod reader;
+pub mod script;
