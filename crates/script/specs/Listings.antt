@@ -60,10 +60,13 @@ abbrev pub next : (ℕ → ℕ → ℕ → Result ℕ Refusal) → ListingState 
 next rule s = nextAt rule s (s .rest)
 
 -- a line goes to the start of a buffer, and the bytes past it stay
-abbrev pub written : {S : Type 0} → Option (List ℕ) × S → List ℕ → Result (Option ℕ) Refusal × S × List ℕ
-written (None, s) buffer = (Ok None, s, buffer)
-written (Some line, s) buffer = (Ok (Some (length line)), s, line ++ drop (length line) buffer)
+abbrev pub written : {S : Type 0} → Option (List ℕ) × S → List ℕ → Option ℕ × S × List ℕ
+written (None, s) buffer = (None, s, buffer)
+written (Some line, s) buffer = (Some (length line), s, line ++ drop (length line) buffer)
+
+abbrev pub accepted : {A S : Type 0} → Option A × S × List ℕ → Result (Option A) Refusal × S × List ℕ
+accepted o = (Ok (o .0), o .1, o .2)
 
 -- a buffer under 96 bytes is refused before anything is done
 abbrev pub lineInto : {S : Type 0} → (S → Option (List ℕ) × S) → S → List ℕ → Result (Option ℕ) Refusal × S × List ℕ
-lineInto next s buffer = cond (ltb (length buffer) 96) (Err ShortBuffer, s, buffer) (written (next s) buffer)
+lineInto next s buffer = cond (ltb (length buffer) 96) (Err ShortBuffer, s, buffer) (accepted (written (next s) buffer))

@@ -1,9 +1,9 @@
 -- The first command of a script: the layout, which makes the group.
-use Prim.Native.Nat.{ℕ}
+use Prim.Native.Nat.{ℕ, zero, suc}
 use mathlib.Core.Bool.{cond}
-use mathlib.Core.List.{List, [], _∷_}
+use mathlib.Core.List.{List, [], _∷_, _++_}
 use lib.Dec.{eqb}
-use lib.ListN.{take}
+use lib.ListN.{length, take}
 use Rattle.std.specs.declared.option.Option.{Option}
 use Rattle.std.specs.declared.option.Option.the-variants.{Some, None}
 use Rattle.std.specs.declared.result.Result.{Result}
@@ -17,7 +17,7 @@ use Rattle.group.specs.Groups.{GroupState}
 use Rattle.group.specs.Layouts.{checkedCounts}
 use Rattle.script.specs.Lines.{Said, done, refused}
 use Rattle.script.specs.Commands.{readCommand}
-use Rattle.script.specs.Listings.{lineOf}
+use Rattle.script.specs.Listings.{ListingState, lineOf, next}
 use Rattle.script.specs.declared.any_group.AnyGroup.{AnyGroup}
 use Rattle.script.specs.declared.any_group.AnyGroup.the-variants.{Unmade, RawOne, RawEach, HybridOne, HybridEach}
 use Rattle.script.specs.declared.command.Command.{Command}
@@ -104,3 +104,25 @@ firstAt s (letter ∷ bytes) = firstNumbered letter (opened s)
 
 abbrev pub first : ScriptState → Option (List ℕ) × ScriptState
 first s = cond (eqb (s .lines) 0) (firstAt s (s .rest)) (None, s)
+
+-- the lines that follow, of at most n commands
+abbrev pub linesAfter : (ListingState → List ℕ) → Option (List ℕ) × ListingState → List ℕ
+linesAfter more (None, s) = []
+linesAfter more (Some line, s) = line ++ more s
+
+abbrev pub linesOf : ℕ → (ℕ → ℕ → ℕ → Result ℕ Refusal) → ListingState → List ℕ
+linesOf zero rule s = []
+linesOf (suc n) rule s = linesAfter (linesOf n rule) (next rule s)
+
+-- the lines after the first: a command takes at least one byte, so there are at most as many as there are bytes left
+abbrev pub restOf : List ℕ → ℕ → Store → List ℕ
+restOf rest lines unmade = []
+restOf rest lines (made clock marks g) = linesOf (length rest) (ruleOf clock) (record { rest = rest; lines = lines; group = g })
+
+abbrev pub listingFrom : Option (List ℕ) × ScriptState → List ℕ
+listingFrom (None, s) = []
+listingFrom (Some line, s) = line ++ restOf (s .rest) (s .lines) (s .store)
+
+-- the whole listing of a script
+abbrev pub listing : List ℕ → List ℕ
+listing bytes = listingFrom (first (begun bytes))

@@ -20,7 +20,10 @@ impl Answer {
     {
         match self {
             Answer::Refused(
-                Refusal::UnknownLetter | Refusal::ShortCommand | Refusal::LayoutMisplaced | Refusal::BadLayout,
+                Refusal::UnknownLetter
+                | Refusal::ShortCommand
+                | Refusal::LayoutMisplaced
+                | Refusal::BadLayout,
             ) => true,
             _ => false,
         }

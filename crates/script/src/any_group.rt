@@ -28,7 +28,13 @@ pub enum AnyGroup {
 pub fn make_group(command: Command) -> Result<AnyGroup, Refusal>
     ensures { λ r. ⌜ storeOf r ≡ madeStore command ⌝ }
 {
-    let Command::Layout { sites, partitions, clock, marks } = command else {
+    let Command::Layout {
+        sites,
+        partitions,
+        clock,
+        marks,
+    } = command
+    else {
         return Err(Refusal::LayoutMisplaced);
     };
     let layout = Draft { sites, partitions }.check()?;

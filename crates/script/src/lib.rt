@@ -3,6 +3,7 @@ pub mod answer;
 pub mod any_group;
 pub mod command;
 pub mod line;
+pub mod list;
 pub mod listing;
 pub mod perform;
 pub mod reader;

@@ -18,7 +18,11 @@ pub fn perform<C: ClockRule, K: MarkKind>(group: &mut Group<C, K>, command: Comm
 {
     match command {
         Command::Layout { .. } => Answer::Refused(Refusal::LayoutMisplaced),
-        Command::Tell { site, partition, time } => done(group.tell(site, partition, time)),
+        Command::Tell {
+            site,
+            partition,
+            time,
+        } => done(group.tell(site, partition, time)),
         Command::Heartbeat { site, partition } => stamped(group.heartbeat(site, partition)),
         Command::Lead { site, partition } => number(group.lead(site, partition)),
     }

@@ -1,9 +1,9 @@
 // The next line of a listing.
 ghost use mathlib.Core.Path.{_≡_};
-ghost use Prim.Native.Nat.{_<_};
+ghost use Prim.Native.Nat.{_<_, _≤_};
 ghost use lib.ListN.{length};
 ghost use Rattle.script.specs.Lines.{said};
-ghost use Rattle.script.specs.Listings.{view, stepped, next, lineInto};
+ghost use Rattle.script.specs.Listings.{view, stepped, next, written, lineInto};
 use super::Listing;
 use crate::answer::Answer;
 use crate::line::MOST_BYTES;
@@ -22,13 +22,21 @@ impl<'a, C: ClockRule, K: MarkKind> Listing<'a, C, K> {
         if buffer.len() < MOST_BYTES {
             return Err(Refusal::ShortBuffer);
         }
+        Ok(self.write_next(buffer))
+    }
+
+    // The same with a buffer that is known to be long enough.
+    pub(crate) fn write_next(&mut self, buffer: &mut [u8]) -> Option<usize>
+        requires { ⌜ 96 ≤ length (now buffer) ⌝ }
+        ensures { λ r. ⌜ (r, view (now (self .exit)), now (buffer .exit)) ≡ written (next (C·ClockRule .answer) (view (now (self .entry)))) (now (buffer .entry)) ⌝ }
+    {
         let [letter, ..] = self.rest else {
-            return Ok(None);
+            return None;
         };
         let letter = *letter as char;
         let answer = self.step();
         self.lines += 1;
-        Ok(Some(write_line(buffer, self.lines, letter, answer)))
+        Some(write_line(buffer, self.lines, letter, answer))
     }
 
     // Performs the next command.

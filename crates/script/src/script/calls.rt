@@ -1,9 +1,9 @@
 // The making of a script, and its first line.
 ghost use mathlib.Core.Path.{_≡_};
-ghost use Prim.Native.Nat.{_<_};
+ghost use Prim.Native.Nat.{_<_, _≤_};
 ghost use lib.ListN.{length};
 ghost use Rattle.script.specs.Lines.{said};
-ghost use Rattle.script.specs.Listings.{lineInto};
+ghost use Rattle.script.specs.Listings.{written, lineInto};
 ghost use Rattle.script.specs.Openings.{view, begun, first as firstLine, opened};
 use super::Script;
 use crate::answer::Answer;
@@ -21,8 +21,16 @@ impl<'a> Script<'a> {
     pub fn new(bytes: &'a [u8]) -> Script<'a>
         ensures { λ r. ⌜ view r ≡ begun (now (bytes .entry)) ⌝ }
     {
-        let rest = if bytes.len() > MOST_SCRIPT_BYTES { &bytes[0..MOST_SCRIPT_BYTES] } else { bytes };
-        Script { rest, lines: 0, group: AnyGroup::Unmade }
+        let rest = if bytes.len() > MOST_SCRIPT_BYTES {
+            &bytes[0..MOST_SCRIPT_BYTES]
+        } else {
+            bytes
+        };
+        Script {
+            rest,
+            lines: 0,
+            group: AnyGroup::Unmade,
+        }
     }
 
     // Performs the first command and writes its line into the buffer: its length, or none if no bytes are left or
@@ -33,16 +41,24 @@ impl<'a> Script<'a> {
         if buffer.len() < MOST_BYTES {
             return Err(Refusal::ShortBuffer);
         }
+        Ok(self.write_first(buffer))
+    }
+
+    // The same with a buffer that is known to be long enough.
+    pub(crate) fn write_first(&mut self, buffer: &mut [u8]) -> Option<usize>
+        requires { ⌜ 96 ≤ length (now buffer) ⌝ }
+        ensures { λ r. ⌜ (r, view (now (self .exit)), now (buffer .exit)) ≡ written (firstLine (view (now (self .entry)))) (now (buffer .entry)) ⌝ }
+    {
         if self.lines > 0 {
-            return Ok(None);
+            return None;
         }
         let [letter, ..] = self.rest else {
-            return Ok(None);
+            return None;
         };
         let letter = *letter as char;
         let answer = self.open();
         self.lines = 1;
-        Ok(Some(write_line(buffer, 1, letter, answer)))
+        Some(write_line(buffer, 1, letter, answer))
     }
 
     // Performs the first command.

@@ -12,8 +12,8 @@ returns-in-Refused c =
     let text = textOf (c .args .self .now) in
     record {
       text =
-        joined text (codes "no ") (decimal (numberOf why)) (c .text-in-Refused .ensures)
-        (c .decimal .ensures ∙ ap (λ n. onto (textOf (c .text-in-Refused .last .self)) (decimal n)) (c .from .ensures ∙ c .number .ensures))
-        ∙ ap (λ a. onto text (printed (said a))) (sym (c .in-Refused .is));
+          joined text (codes "no ") (decimal (numberOf why)) (c .text-in-Refused .ensures)
+          (c .decimal .ensures ∙ ap (λ n. onto (textOf (c .text-in-Refused .last .self)) (decimal n)) (c .from .ensures ∙ c .number .ensures))
+          ∙ ap (λ a. onto text (printed (said a))) (sym (c .in-Refused .is));
       short = rw (c .in-Refused .is) (refusal-short why);
     }

@@ -20,12 +20,13 @@ returns c =
     let digits : decimal (c .unsigned-abs .result) ≡ decimal (natAbs n) = ap decimal (c .unsigned-abs .ensures .value ∙ ap natAbs is) in
     record {
       text =
-        elim (c .if-number-lt0 .came) [
-          then-number-lt0 w ↦
-            let minus = joined text (45 ∷ []) (decimal (c .unsigned-abs .result)) (w .byte .ensures) (c .decimal .ensures ∙ ap (λ s. onto (textOf s) (decimal (c .unsigned-abs .result))) (w .self-is)) in
-            minus ∙ ap (λ ds. onto text (45 ∷ ds)) digits ∙ ap (onto text) (sym (signed-below n (ap (λ z. ltZ z (pos 0)) (sym is) ∙ w .if-number-lt0 .taken)))
-        | else-number-lt0 w ↦
-            c .decimal .ensures ∙ ap (λ s. onto (textOf s) (decimal (c .unsigned-abs .result))) (w .self-is)
-            ∙ ap (onto text) (digits ∙ sym (signed-above n (ap (λ z. ltZ z (pos 0)) (sym is) ∙ w .if-number-lt0 .left))) ];
+          elim (c .if-number-lt0 .came) [
+            | then-number-lt0 w ↦
+                let minus = joined text (45 ∷ []) (decimal (c .unsigned-abs .result)) (w .byte .ensures) (c .decimal .ensures ∙ ap (λ s. onto (textOf s) (decimal (c .unsigned-abs .result))) (w .self-is)) in
+                minus ∙ ap (λ ds. onto text (45 ∷ ds)) digits ∙ ap (onto text) (sym (signed-below n (ap (λ z. ltZ z (pos 0)) (sym is) ∙ w .if-number-lt0 .taken)))
+            | else-number-lt0 w ↦
+                c .decimal .ensures ∙ ap (λ s. onto (textOf s) (decimal (c .unsigned-abs .result))) (w .self-is)
+                ∙ ap (onto text) (digits ∙ sym (signed-above n (ap (λ z. ltZ z (pos 0)) (sym is) ∙ w .if-number-lt0 .left)))
+          ];
       short = length-signed-le 19 n (omega arith) (omega arith);
     }

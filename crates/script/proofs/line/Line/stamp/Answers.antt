@@ -18,10 +18,10 @@ returns c =
     let stamp = c .args .stamp .value in
     record {
       text =
-        joined text (time ++ 46 ∷ []) count dot (c .decimal-2 .ensures ∙ ap (λ n. onto (textOf (c .byte .last .self)) (decimal n)) (c .count .ensures))
-        ∙ ap (onto text) (append-assoc time (46 ∷ []) count);
+          joined text (time ++ 46 ∷ []) count dot (c .decimal-2 .ensures ∙ ap (λ n. onto (textOf (c .byte .last .self)) (decimal n)) (c .count .ensures))
+          ∙ ap (onto text) (append-assoc time (46 ∷ []) count);
       short =
-        let t = length-decimal-le 15 (timeOf stamp) (omega arith) (omega arith) (omega arith) in
-        let n = length-decimal-le 5 (countOf stamp) (omega arith) (omega arith) (omega arith) in
-        simp length-append (omega arith);
+          let t = length-decimal-le 15 (timeOf stamp) (omega arith) (omega arith) (omega arith) in
+          let n = length-decimal-le 5 (countOf stamp) (omega arith) (omega arith) (omega arith) in
+          simp length-append (omega arith);
     }

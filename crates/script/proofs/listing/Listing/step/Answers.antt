@@ -29,7 +29,7 @@ returns-after-ends-listing g c =
     let j = need.at·returns-after-ends-listing g c .Joined-ends-listing in
     record {
       step =
-        stepped-ok (g .C·ClockRule .answer) (view (c .args .self .now)) (c .in-Ok .command) (c .in-Ok .rest .now) (c .if-ends-listing .self .now) (said (c .perform-answer .result)) (group.view (c .perform-answer .last .group))
-        (c .in-Ok .ensures tt) (c .perform-answer .ensures) (left g j);
+          stepped-ok (g .C·ClockRule .answer) (view (c .args .self .now)) (c .in-Ok .command) (c .in-Ok .rest .now) (c .if-ends-listing .self .now) (said (c .perform-answer .result)) (group.view (c .perform-answer .last .group))
+          (c .in-Ok .ensures tt) (c .perform-answer .ensures) (left g j);
       shorter = shorter g j;
     }

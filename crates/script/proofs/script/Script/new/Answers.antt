@@ -12,7 +12,8 @@ pub returns : need.returns
 returns c =
     let bytes = c .args .bytes .now in
     let cut : c .if-bytes-gt-MOST-SCRIPT-BYTES .rest .now ≡ take 65535 bytes =
-        elim (c .if-bytes-gt-MOST-SCRIPT-BYTES .came) [
-          then-bytes-gt-MOST-SCRIPT-BYTES w ↦ grind arith
-        | else-bytes-gt-MOST-SCRIPT-BYTES w ↦ let all = take-all 65535 bytes (omega arith) in grind (arith, all) ] in
+    elim (c .if-bytes-gt-MOST-SCRIPT-BYTES .came) [
+      | then-bytes-gt-MOST-SCRIPT-BYTES w ↦ grind arith
+      | else-bytes-gt-MOST-SCRIPT-BYTES w ↦ let all = take-all 65535 bytes (omega arith) in grind (arith, all)
+    ] in
     ap (λ rest. state rest 0 unmade) cut

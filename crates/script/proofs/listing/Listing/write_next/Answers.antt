@@ -3,7 +3,7 @@ use mathlib.Core.Path.{_≡_, ap, _∙_}
 use Rattle.script.specs.Listings.{ListingState, view}
 use Rattle.script.specs.Lines.{Said}
 use Rattle.script.proofs.Listed.{stepped-lines}
-use Rattle.script.proofs.listing.Listing.next_line.Needs as need
+use Rattle.script.proofs.listing.Listing.write_next.Needs as need
 
 pub ghost-self : need.ghost-self
 ghost-self g c =
