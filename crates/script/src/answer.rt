@@ -15,7 +15,7 @@ pub enum Answer {
 
 impl Answer {
     // Whether nothing more is listed after it.
-    pub fn ends_listing(self) -> bool
+    pub(crate) fn ends_listing(self) -> bool
         ensures { λ r. ⌜ r ≡ ends (said self) ⌝ }
     {
         match self {

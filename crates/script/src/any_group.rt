@@ -25,7 +25,7 @@ pub enum AnyGroup {
 }
 
 // The group that a script's first command makes, which has to be a layout.
-pub fn make_group(command: Command) -> Result<AnyGroup, Refusal>
+pub(crate) fn make_group(command: Command) -> Result<AnyGroup, Refusal>
     ensures { λ r. ⌜ storeOf r ≡ madeStore command ⌝ }
 {
     let Command::Layout {

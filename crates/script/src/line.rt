@@ -5,7 +5,7 @@ use fixed_vec::FixedVec;
 pub const MOST_BYTES: usize = 96;
 
 // What does not fit any more is left out; the lines of a listing all fit.
-pub struct Line {
+pub(crate) struct Line {
     text: FixedVec<u8, MOST_BYTES>,
 }
 

@@ -13,7 +13,10 @@ use stamps::refusal::Refusal;
 use stamps::stamp::Stamp;
 
 // A group has its layout already, so a second one is refused.
-pub fn perform<C: ClockRule, K: MarkKind>(group: &mut Group<C, K>, command: Command) -> Answer
+pub(crate) fn perform<C: ClockRule, K: MarkKind>(
+    group: &mut Group<C, K>,
+    command: Command,
+) -> Answer
     ensures { λ r. ⌜ (said r, view (now (group .exit))) ≡ performed (C·ClockRule .answer) (view (now (group .entry))) command ⌝ }
 {
     match command {

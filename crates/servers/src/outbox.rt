@@ -5,7 +5,7 @@ use fixed_vec::FixedVec;
 // No site has more than this many entries to take.
 pub const MOST_ENTRIES: usize = 16;
 
-pub struct Outbox {
+pub(crate) struct Outbox {
     entries: FixedVec<Entry, MOST_ENTRIES>,
 }
 

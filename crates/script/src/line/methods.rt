@@ -11,7 +11,7 @@ use fixed_vec::FixedVec;
 use stamps::stamp::Stamp;
 
 impl Line {
-    pub fn new() -> Line
+    pub(crate) fn new() -> Line
         ensures { λ r. ⌜ textOf r ≡ [] ⌝ }
     {
         Line {
@@ -19,19 +19,19 @@ impl Line {
         }
     }
 
-    pub fn as_slice(&self) -> &[u8]
+    pub(crate) fn as_slice(&self) -> &[u8]
         ensures { λ r. ⌜ now r ≡ textOf (now (self .entry)) ⌝ }
     {
         self.text.as_slice()
     }
 
-    pub fn byte(&mut self, byte: u8)
+    pub(crate) fn byte(&mut self, byte: u8)
         ensures { λ _. ⌜ textOf (now (self .exit)) ≡ onto (textOf (now (self .entry))) (byte ∷ []) ⌝ }
     {
         let _ = self.text.push(byte);
     }
 
-    pub fn text(&mut self, bytes: &[u8])
+    pub(crate) fn text(&mut self, bytes: &[u8])
         ensures { λ _. ⌜ textOf (now (self .exit)) ≡ onto (textOf (now (self .entry))) (now (bytes .entry)) ⌝ }
     {
         for byte in bytes {
@@ -40,7 +40,7 @@ impl Line {
     }
 
     // A number in decimal digits.
-    pub fn decimal(&mut self, number: u64)
+    pub(crate) fn decimal(&mut self, number: u64)
         ensures { λ _. ⌜ textOf (now (self .exit)) ≡ onto (textOf (now (self .entry))) (digitsOf number) ⌝ }
     {
         if number >= 10 {
@@ -50,7 +50,7 @@ impl Line {
     }
 
     // A number in decimal digits, with a minus in front if it is below 0.
-    pub fn signed(&mut self, number: i64)
+    pub(crate) fn signed(&mut self, number: i64)
         ensures text { λ _. ⌜ textOf (now (self .exit)) ≡ onto (textOf (now (self .entry))) (signedDigits number) ⌝ }
         ensures short { λ _. ⌜ length (signedDigits number) ≤ 20 ⌝ }
     {
@@ -60,7 +60,7 @@ impl Line {
         self.decimal(number.unsigned_abs());
     }
 
-    pub fn answer(&mut self, answer: Answer)
+    pub(crate) fn answer(&mut self, answer: Answer)
         ensures text { λ _. ⌜ textOf (now (self .exit)) ≡ onto (textOf (now (self .entry))) (printed (said answer)) ⌝ }
         ensures short { λ _. ⌜ length (printed (said answer)) ≤ 40 ⌝ }
     {

@@ -9,7 +9,7 @@ use fixed_vec::Full;
 use stamps::stamp::Stamp;
 
 impl Outbox {
-    pub fn new() -> Outbox
+    pub(crate) fn new() -> Outbox
         ensures { λ r. ⌜ waiting r ≡ [] ⌝ }
     {
         Outbox {
@@ -18,14 +18,14 @@ impl Outbox {
     }
 
     // Whether some other site has as many entries still to take as are kept for it.
-    pub fn is_full(&self) -> bool
+    pub(crate) fn is_full(&self) -> bool
         ensures { λ r. ⌜ r ≡ isFull (waiting (now (self .entry))) ⌝ }
     {
         self.entries.len() >= super::MOST_ENTRIES
     }
 
     // One entry more, for every other site.
-    pub fn issue(&mut self, entry: Entry) -> Result<(), Full>
+    pub(crate) fn issue(&mut self, entry: Entry) -> Result<(), Full>
         ensures { λ r. ⌜ (r, waiting (now (self .exit))) ≡ issued (waiting (now (self .entry))) entry ⌝ }
     {
         self.entries.push(entry)
