@@ -1,8 +1,9 @@
 -- The worked edges of both clock rules and of floor, as one table that the checker computes.
 use mathlib.Core.Bool.{Bool, true, false, _&&_}
-use mathlib.Core.List.{List, [], _∷_}
+use mathlib.Core.List.{List, [], _∷_, _++_}
 use Prim.Native.Nat.{ℕ}
 use lib.Dec.{eqb}
+use lib.IntN.{ℤ, pos}
 use Rattle.std.specs.declared.result.Result.{Result}
 use Rattle.std.specs.declared.result.Result.the-variants.{Ok, Err}
 use Rattle.stamps.specs.declared.refusal.Refusal.{Refusal}
@@ -11,6 +12,7 @@ use Rattle.stamps.specs.Refusals.{numberOf}
 use Rattle.stamps.specs.Stamps.{stampOf}
 use Rattle.stamps.specs.Rows.{Four, same, covers}
 use Rattle.stamps.specs.Clocks.{raw, hybrid}
+use Rattle.stamps.specs.Outside.{signedNumber}
 use Rattle.stamps.specs.BuiltKinds.{oneKind, eachKind}
 
 pub data Edge : Type 0 where
@@ -47,3 +49,15 @@ holds (floored floor row answer) = covers (floor row) answer && covers answer (f
 abbrev pub allHold : List Edge → Bool
 allHold [] = true
 allHold (e ∷ es) = holds e && allHold es
+
+-- the numbers of an edge's answer
+abbrev pub entriesOf : Four → List ℤ
+entriesOf row = pos (row .site0) ∷ pos (row .site1) ∷ pos (row .site2) ∷ pos (row .site3) ∷ []
+
+abbrev pub answerOf : Edge → List ℤ
+answerOf (stamped rule last reading dependency answer) = signedNumber answer ∷ []
+answerOf (floored floor row answer) = entriesOf answer
+
+abbrev pub answersOf : List Edge → List ℤ
+answersOf [] = []
+answersOf (e ∷ es) = answerOf e ++ answersOf es

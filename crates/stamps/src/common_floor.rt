@@ -1,5 +1,6 @@
 // The common floor of a run of rows, for every kind of mark.
 ghost use mathlib.Core.Path.{_≡_};
+ghost use Rattle.stamps.specs.Rows.{four, meet};
 ghost use Rattle.stamps.specs.CommonFloors.{commonFloor, GreatestCommon};
 use crate::mark_kind::MarkKind;
 use crate::row::Row;
@@ -13,7 +14,14 @@ pub fn common_floor<K: MarkKind>(rows: &[Row]) -> K::Mark
 {
     let mut mark = K::floor(Row::same(Stamp::last()));
     for row in rows {
-        mark = K::meet(mark, K::floor(*row));
+        mark = lowered::<K>(mark, *row);
     }
     mark
+}
+
+// The meet of a mark with a row, taken as a mark.
+fn lowered<K: MarkKind>(mark: K::Mark, row: Row) -> K::Mark
+    ensures { λ r. ⌜ K·MarkKind .meaning r ≡ meet (K·MarkKind .meaning mark) (K·MarkKind .kind .floor (four (row .entries))) ⌝ }
+{
+    K::meet(mark, K::floor(row))
 }

@@ -55,10 +55,10 @@ impl Stamp {
     pub fn max(self, other: Stamp) -> Stamp
         ensures { λ r. ⌜ r .value ≡ max (self .value) (other .value) ⌝ }
     {
-        if self.value < other.value {
-            other
-        } else {
+        if self.value >= other.value {
             self
+        } else {
+            other
         }
     }
 
@@ -66,7 +66,7 @@ impl Stamp {
     pub fn min(self, other: Stamp) -> Stamp
         ensures { λ r. ⌜ r .value ≡ min (self .value) (other .value) ⌝ }
     {
-        if self.value < other.value {
+        if self.value <= other.value {
             self
         } else {
             other
