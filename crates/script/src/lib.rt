@@ -8,3 +8,5 @@ pub mod listing;
 pub mod perform;
 pub mod reader;
 pub mod script;
+#[cfg(test)]
+mod tests;

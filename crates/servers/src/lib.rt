@@ -2,3 +2,5 @@
 pub mod entry;
 pub mod outbox;
 pub mod server;
+#[cfg(test)]
+mod tests;
