@@ -3,3 +3,4 @@ pub mod fixed_vec;
 
 pub use fixed_vec::FixedVec;
 pub use fixed_vec::Full;
+pub use fixed_vec::Keeps;

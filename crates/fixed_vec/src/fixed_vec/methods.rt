@@ -1,10 +1,12 @@
 // The methods of `FixedVec`.
 ghost use mathlib.Core.Path.{_≡_};
 ghost use mathlib.Core.List.{[]};
-ghost use lib.ListN.{length};
-ghost use Rattle.fixed_vec.specs.Items.{items, pushed};
+ghost use Prim.Native.Nat.{_-_};
+ghost use lib.ListN.{length, drop};
+ghost use Rattle.fixed_vec.specs.Items.{items, pushed, kept};
 use super::FixedVec;
 use super::Full;
+use super::Keeps;
 
 impl<T: Copy, const N: usize> FixedVec<T, N> {
     // A vector with no items. The filler stands in the unused cells, and is never seen.
@@ -40,5 +42,35 @@ impl<T: Copy, const N: usize> FixedVec<T, N> {
         self.cells[self.len] = item;
         self.len += 1;
         Ok(())
+    }
+
+    // Only the last items, so many of them; all if there are fewer.
+    pub fn keep_last(&mut self, count: usize)
+        ensures { λ _. ⌜ items (now (self .exit)) ≡ drop (length (items (now (self .entry))) - count) (items (now (self .entry))) ⌝ }
+    {
+        if count >= self.len {
+            return;
+        }
+        let gone = self.len - count;
+        for i in gone..self.len {
+            let item = self.cells[i];
+            self.cells[i - gone] = item;
+        }
+        self.len = count;
+    }
+
+    // Only the items that are to stay, in their order.
+    pub fn retain<P: Keeps<T>>(&mut self, which: &P)
+        ensures { λ _. ⌜ items (now (self .exit)) ≡ kept (P·Keeps .keeps (now (which .entry))) (items (now (self .entry))) ⌝ }
+    {
+        let mut count = 0;
+        for i in 0..self.len {
+            let item = self.cells[i];
+            if which.keeps(&item) {
+                self.cells[count] = item;
+                count += 1;
+            }
+        }
+        self.len = count;
     }
 }
