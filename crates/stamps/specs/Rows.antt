@@ -15,6 +15,9 @@ pub record Four : Type 0 where
 abbrev pub four : List ℕ → Four
 four xs = record { site0 = getD xs 0 0; site1 = getD xs 1 0; site2 = getD xs 2 0; site3 = getD xs 3 0 }
 
+abbrev pub rowOf : ℕ → ℕ → ℕ → ℕ → Four
+rowOf a b c d = record { site0 = a; site1 = b; site2 = c; site3 = d }
+
 -- each entry is a stamp
 abbrev pub Stamps : Four → Type 0
 Stamps x = (x .site0 < 2 ^ 63) × (x .site1 < 2 ^ 63) × (x .site2 < 2 ^ 63) × (x .site3 < 2 ^ 63)
@@ -31,6 +34,11 @@ same s = record { site0 = s; site1 = s; site2 = s; site3 = s }
 abbrev pub only : ℕ → ℕ → Four
 only site s =
     record { site0 = cond (eqb site 0) s 0; site1 = cond (eqb site 1) s 0; site2 = cond (eqb site 2) s 0; site3 = cond (eqb site 3) s 0 }
+
+-- another stamp at one site
+abbrev pub withEntry : Four → ℕ → ℕ → Four
+withEntry x site s =
+    record { site0 = cond (eqb site 0) s (x .site0); site1 = cond (eqb site 1) s (x .site1); site2 = cond (eqb site 2) s (x .site2); site3 = cond (eqb site 3) s (x .site3) }
 
 -- x covers y: it is at least as high at each entry
 abbrev pub Covers : Four → Four → Type 0

@@ -1,6 +1,6 @@
 // How rows are made, read, compared and combined.
 ghost use mathlib.Core.Path.{_≡_};
-ghost use Rattle.stamps.specs.Rows.{four, at, same, only, covers, join, meet, greatest, least};
+ghost use Rattle.stamps.specs.Rows.{four, rowOf, at, same, only, withEntry, covers, join, meet, greatest, least};
 ghost use Rattle.stamps.specs.Checks.{rowNumbers, checkedRow};
 use super::Row;
 use crate::refusal::Refusal;
@@ -19,6 +19,15 @@ impl Row {
         Ok(Row {
             entries: [a, b, c, d],
         })
+    }
+
+    // The row of four stamps, by site number.
+    pub fn of(a: Stamp, b: Stamp, c: Stamp, d: Stamp) -> Row
+        ensures { λ r. ⌜ four (r .entries) ≡ rowOf (a .value) (b .value) (c .value) (d .value) ⌝ }
+    {
+        Row {
+            entries: [a.value, b.value, c.value, d.value],
+        }
     }
 
     // The row with this stamp at each site.
@@ -46,6 +55,15 @@ impl Row {
         Stamp {
             value: self.entries[site.number as usize],
         }
+    }
+
+    // The row with another stamp at one site.
+    pub fn with_entry(&self, site: Site, stamp: Stamp) -> Row
+        ensures { λ r. ⌜ four (r .entries) ≡ withEntry (four (now (self .entry) .entries)) (site .number) (stamp .value) ⌝ }
+    {
+        let mut entries = self.entries;
+        entries[site.number as usize] = stamp.value;
+        Row { entries }
     }
 
     // Whether each entry is at least the other's.
