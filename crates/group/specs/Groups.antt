@@ -24,15 +24,18 @@ pub record GroupState : Type 0 where
 abbrev pub placeOf : ℕ → ℕ → ℕ
 placeOf site partition = site * 4 + partition
 
-abbrev pub at : List ServerState → ℕ → ℕ → ServerState
-at servers site partition = cond (ltb partition 4) (getD servers (placeOf site partition) server.fresh) server.fresh
+-- the server of a site and a partition; past the array, a server as it is made
+abbrev pub at : ℕ → List ServerState → ℕ → ℕ → ServerState
+at sites servers site partition =
+    cond (ltb site 4 && ltb partition 4) (getD servers (placeOf site partition) (server.fresh site sites)) (server.fresh site sites)
 
 abbrev pub view : {C K Mark : Type 0} → Group C K Mark → GroupState
-view g = record { sites = g .layout .sites; partitions = g .layout .partitions; server = at (map server.view (g .servers)) }
+view g =
+    record { sites = g .layout .sites .number; partitions = g .layout .partitions; server = at (g .layout .sites .number) (map server.view (g .servers)) }
 
 -- a group as it is made
 abbrev pub made : ℕ → ℕ → GroupState
-made sites partitions = record { sites = sites; partitions = partitions; server = λ site partition. server.fresh }
+made sites partitions = record { sites = sites; partitions = partitions; server = λ site partition. server.fresh site sites }
 
 -- the group with one server replaced
 abbrev pub withServer : GroupState → ℕ → ℕ → ServerState → GroupState

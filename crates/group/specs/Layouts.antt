@@ -10,7 +10,7 @@ use Rattle.group.specs.declared.layout.Layout.{Layout}
 
 -- the counts of sites and partitions of a layout that was made, or the refusal
 abbrev pub countsOf : Result Layout Refusal → Result (ℕ × ℕ) Refusal
-countsOf (Ok layout) = Ok (layout .sites, layout .partitions)
+countsOf (Ok layout) = Ok (layout .sites .number, layout .partitions)
 countsOf (Err why) = Err why
 
 -- 2 to 4 sites and 1 to 4 partitions

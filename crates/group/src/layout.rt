@@ -1,5 +1,6 @@
 // How many sites and partitions a group has.
 ghost use Prim.Native.Nat.{_≤_};
+use servers::site_count::SiteCount;
 
 // Two counts that nobody has checked.
 #[derive(Clone, Copy, PartialEq, Eq, Debug)]
@@ -11,9 +12,8 @@ pub struct Draft {
 // Two counts that the check has passed. Only `Draft::check` makes one.
 #[derive(Clone, Copy)]
 pub struct Layout {
-    sites: u8,
+    sites: SiteCount,
     partitions: u8,
-    ghost some_sites: { (2 ≤ sites) × (sites ≤ 4) },
     ghost some_partitions: { (1 ≤ partitions) × (partitions ≤ 4) },
 }
 

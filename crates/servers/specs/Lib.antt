@@ -1,2 +1,12 @@
+pub mod Values
+pub mod Versions
+pub mod Tables
+pub mod Held
+pub mod Entries
+pub mod Others
+pub mod SiteCounts
+pub mod Counting
+pub mod Lefts
 pub mod Outboxes
 pub mod Servers
+pub mod Laws

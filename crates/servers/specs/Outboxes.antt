@@ -1,31 +1,54 @@
--- Outboxes: the entries that other sites have still to take.
-use Prim.Native.Nat.{ℕ}
+-- Outboxes: what each other site has still to take, in order of issue.
+use Prim.Native.Nat.{ℕ, _-_}
+use mathlib.Core.Bool.{Bool, cond, _&&_, _||_}
 use mathlib.Core.List.{List, [], _∷_, _++_, map}
-use mathlib.Core.Bool.{Bool, cond}
-use lib.Dec.{leb, ltb}
-use lib.ListN.{length}
-use Rattle.std.specs.declared.result.Result.{Result}
-use Rattle.std.specs.declared.result.Result.the-variants.{Ok, Err}
+use lib.Dec.{eqb, leb, ltb}
+use lib.ListN.{length, drop}
+use Rattle.std.specs.declared.option.Option.{Option}
+use Rattle.std.specs.declared.option.Option.the-variants.{None, Some}
 use Rattle.fixed_vec.specs.Items.{items}
-use Rattle.fixed_vec.specs.declared.fixed_vec.Full.{Full}
-use Rattle.servers.specs.declared.entry.Entry.{Entry}
-use Rattle.servers.specs.declared.entry.Entry.the-variants.{Heartbeat}
+use Rattle.stamps.specs.Rows.{Four, at}
+use Rattle.servers.specs.Counting.{counts}
+use Rattle.servers.specs.Entries.{Sent, sent}
+use Rattle.servers.specs.Others.{isOther}
 use Rattle.servers.specs.declared.outbox.Outbox.{Outbox}
 
--- an entry, by its numbers
-pub data Sent : Type 0 where
-  heartbeat : ℕ → Sent
+-- by site
+abbrev pub Queues : Type 0
+Queues = ℕ → List Sent
 
-abbrev pub sent : Entry → Sent
-sent (Heartbeat stamp) = heartbeat (stamp .value)
+-- the last entries: as many as the site has still to take
+abbrev pub lastFor : List Sent → Four → Queues
+lastFor entries left site = cond (ltb site 4) (drop (length entries - at left site) entries) []
 
--- the entries in order of issue
-abbrev pub waiting : Outbox → List Sent
-waiting o = map sent (items (o .entries))
+abbrev pub waiting : Outbox → Queues
+waiting o = lastFor (map sent (items (o .entries))) (counts (o .left))
+
+abbrev pub noneWaiting : Queues
+noneWaiting site = []
 
 -- some other site has 16 entries still to take
-abbrev pub isFull : List Sent → Bool
-isFull entries = leb 16 (length entries)
+abbrev pub has16 : ℕ → ℕ → Queues → ℕ → Bool
+has16 own sites w site = isOther own sites site && leb 16 (length (w site))
 
-abbrev pub issued : List Sent → Entry → Result (Unit {0}) Full × List Sent
-issued entries entry = cond (isFull entries) (Err (record {}), entries) (Ok tt, entries ++ sent entry ∷ [])
+abbrev pub outboxFull : ℕ → ℕ → Queues → Bool
+outboxFull own sites w = has16 own sites w 0 || (has16 own sites w 1 || (has16 own sites w 2 || has16 own sites w 3))
+
+-- one entry more for every other site
+abbrev pub issued : ℕ → ℕ → Queues → Sent → Queues
+issued own sites w e site = cond (isOther own sites site) (w site ++ e ∷ []) (w site)
+
+-- the same, if no other site has 16 to take
+abbrev pub issuedIfRoom : ℕ → ℕ → Queues → Sent → Queues
+issuedIfRoom own sites w e = cond (outboxFull own sites w) w (issued own sites w e)
+
+abbrev pub first : {A : Type 0} → List A → Option A
+first [] = None
+first (x ∷ xs) = Some x
+
+-- the next entry for a site, and what is left when it is taken
+abbrev pub nextFor : Queues → ℕ → Option Sent
+nextFor w site = first (w site)
+
+abbrev pub takenBy : Queues → ℕ → Queues
+takenBy w taker site = cond (eqb site taker) (drop 1 (w site)) (w site)

@@ -9,18 +9,22 @@ use servers::server::Server;
 use stamps::clock_rule::ClockRule;
 use stamps::mark_kind::MarkKind;
 use stamps::refusal::Refusal;
+use stamps::site::Site;
 use stamps::stamp::Stamp;
-use std::marker::PhantomData;
 
 impl<C: ClockRule, K: MarkKind> Group<C, K> {
     // A group with nothing in it. It takes a checked layout, so it cannot be refused.
     pub fn new(layout: Layout) -> Self
-        ensures { λ r. ⌜ view r ≡ made (layout .sites) (layout .partitions) ⌝ }
+        ensures { λ r. ⌜ view r ≡ made (layout .sites .number) (layout .partitions) ⌝ }
     {
+        let sites = layout.sites();
+        let a = Server::new(site_of(0), sites);
+        let b = Server::new(site_of(1), sites);
+        let c = Server::new(site_of(2), sites);
+        let d = Server::new(site_of(3), sites);
         Group {
             layout,
-            servers: [Server::new(); 16],
-            kind: PhantomData,
+            servers: [a, a, a, a, b, b, b, b, c, c, c, c, d, d, d, d],
         }
     }
 
@@ -61,4 +65,15 @@ fn place(site: u8, partition: u8) -> usize
     ensures { λ r. ⌜ r ≡ placeOf site partition ⌝ }
 {
     site as usize * 4 + partition as usize
+}
+
+// The site of a number that is known to be one.
+fn site_of(number: u8) -> Site
+    requires { ⌜ number < 4 ⌝ }
+    ensures { λ r. ⌜ r .number ≡ number ⌝ }
+{
+    match Site::new(number) {
+        Ok(site) => site,
+        Err(_) => unreachable(),
+    }
 }

@@ -3,6 +3,7 @@ ghost use mathlib.Core.Path.{_≡_};
 ghost use Rattle.group.specs.Layouts.{countsOf, checkedCounts, hasServer};
 use super::Draft;
 use super::Layout;
+use servers::site_count::SiteCount;
 use stamps::refusal::Refusal;
 
 impl Draft {
@@ -11,18 +12,25 @@ impl Draft {
         ensures { λ r. ⌜ countsOf r ≡ checkedCounts (self .sites) (self .partitions) ⌝ }
     {
         let Draft { sites, partitions } = self;
-        match (sites, partitions) {
-            (2..=4, 1..=4) => Ok(Layout { sites, partitions }),
-            _ => Err(Refusal::BadLayout),
+        let sites = SiteCount::new(sites)?;
+        if partitions < 1 || partitions > 4 {
+            return Err(Refusal::BadLayout);
         }
+        Ok(Layout { sites, partitions })
     }
 }
 
 impl Layout {
+    pub(crate) fn sites(&self) -> SiteCount
+        ensures { λ r. ⌜ r .number ≡ now (self .entry) .sites .number ⌝ }
+    {
+        self.sites
+    }
+
     // Whether the site has such a server.
     pub fn has_server(&self, site: u8, partition: u8) -> bool
-        ensures { λ r. ⌜ r ≡ hasServer (now (self .entry) .sites) (now (self .entry) .partitions) site partition ⌝ }
+        ensures { λ r. ⌜ r ≡ hasServer (now (self .entry) .sites .number) (now (self .entry) .partitions) site partition ⌝ }
     {
-        site < self.sites && partition < self.partitions
+        site < self.sites.number() && partition < self.partitions
     }
 }
