@@ -54,7 +54,7 @@ pub record IsTidied (k : Kind) (safe : Four) (before after : List VersionState) 
       → In v after ⊎ ((w : VersionState) × In w after × (w .key ≡ v .key) × (covered k safe w ≡ true) × Later w v)
   pub counts : length after + count ≡ length before
 
--- A stamp that a server answers is above its last one: its stamps strictly rise.
+-- A stamp that a server answers is above its last one.
 abbrev pub Above : ℕ → Result ℕ Refusal → Type 0
 Above last (Ok stamp) = last < stamp
 Above last (Err why) = Unit {0}

@@ -118,10 +118,11 @@ reporting k s = withMarks s (record { received = s .marks .received; reported = 
 abbrev pub putVersion : ServerState → ℕ → Worth → Four → ℕ → VersionState
 putVersion s key value depends stamp = record { key = key; value = value; stamp = stamp; source = s .site; mark = depends }
 
--- it is kept and issued, and the stable mark is raised by what the session knows
+-- the version is kept, at the end
 abbrev pub keeping : ServerState → VersionState → ServerState
 keeping s v = record { site = s .site; sites = s .sites; reading = s .reading; marks = s .marks; held = s .held ++ v ∷ []; waiting = s .waiting }
 
+-- with a stamp, the version is kept and issued, and the stable mark is raised by what the session knows
 abbrev pub puttingAt : Kind → ServerState → ℕ → Worth → Four → Four → Result ℕ Refusal → Result ℕ Refusal × ServerState
 puttingAt k s key value depends knows (Err why) = (Err why, s)
 puttingAt k s key value depends knows (Ok stamp) =
@@ -136,10 +137,11 @@ putting rule k s key value depends knows =
     (cond (outboxFull (s .site) (s .sites) (s .waiting)) (Err OutboxFull, s)
     (puttingAt k s key value depends knows (rule (lastOf s) (s .reading) (greatest depends))))
 
--- an entry from another site is taken: a full table refuses an update
+-- an entry of this stamp was taken from a site
 abbrev pub receiving : ServerState → ℕ → ℕ → ServerState
 receiving s from stamp = withMarks s (withReceived (s .marks) from stamp)
 
+-- an entry is taken: a full table refuses an update
 abbrev pub taking : ServerState → ℕ → Sent → Result (Unit {0}) Refusal × ServerState
 taking s from (heartbeat stamp) = (Ok tt, receiving s from stamp)
 taking s from (update v) = cond (tableFull (s .held)) (Err TableFull, s) (Ok tt, receiving (keeping s v) from (v .stamp))
