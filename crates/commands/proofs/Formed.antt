@@ -6,9 +6,9 @@ use Rattle.commands.specs.declared.command.Command.{Command}
 use Rattle.commands.specs.Commands.{Form, formed}
 
 -- what was read was enough bytes, and is made of them
-pub formed-ok : (f : Form) (bytes : List ℕ) (p : Command × List ℕ) → formed f bytes ≡ Ok p
+pub formed_ok : (f : Form) (bytes : List ℕ) (p : Command × List ℕ) → formed f bytes ≡ Ok p
     → (f.width ≤ length bytes) × (p ≡ (f.make bytes, drop f.width bytes))
-formed-ok f bytes p =
+formed_ok f bytes p =
     cond_both (leb f.width (length bytes)) (Ok (f.make bytes, drop f.width bytes)) (Err ShortCommand)
     (λ r. r ≡ Ok p → (f.width ≤ length bytes) × (p ≡ (f.make bytes, drop f.width bytes)))
     (λ enough e. (leb-true _ _ enough, cc))

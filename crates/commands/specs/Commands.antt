@@ -24,62 +24,62 @@ pub record Form : Type 0 where
   pub width : ℕ
   pub make : List ℕ → Command
 
-abbrev pub layoutForm : Form
-layoutForm = record { width = 4; make = λ b. Layout (one b 0) (one b 1) (one b 2) (one b 3) }
+abbrev pub layout_form : Form
+layout_form = record { width = 4; make = λ b. Layout (one b 0) (one b 1) (one b 2) (one b 3) }
 
-abbrev pub openSessionForm : Form
-openSessionForm = record { width = 1; make = λ b. OpenSession (one b 0) }
+abbrev pub open_session_form : Form
+open_session_form = record { width = 1; make = λ b. OpenSession (one b 0) }
 
-abbrev pub tellForm : Form
-tellForm = record { width = 8; make = λ b. Tell (one b 0) (one b 1) (six b 2) }
+abbrev pub tell_form : Form
+tell_form = record { width = 8; make = λ b. Tell (one b 0) (one b 1) (six b 2) }
 
-abbrev pub putForm : Form
-putForm = record { width = 8; make = λ b. Put (one b 0) (two b 1) (one b 3) (four b 4) }
+abbrev pub put_form : Form
+put_form = record { width = 8; make = λ b. Put (one b 0) (two b 1) (one b 3) (four b 4) }
 
-abbrev pub getForm : Form
-getForm = record { width = 3; make = λ b. Get (one b 0) (two b 1) }
+abbrev pub get_form : Form
+get_form = record { width = 3; make = λ b. Get (one b 0) (two b 1) }
 
-abbrev pub deliverForm : Form
-deliverForm = record { width = 3; make = λ b. Deliver (one b 0) (one b 1) (one b 2) }
+abbrev pub deliver_form : Form
+deliver_form = record { width = 3; make = λ b. Deliver (one b 0) (one b 1) (one b 2) }
 
-abbrev pub viewForm : Form
-viewForm = record { width = 6; make = λ b. View (one b 0) (one b 1) (two b 2) (two b 4) }
+abbrev pub view_form : Form
+view_form = record { width = 6; make = λ b. View (one b 0) (one b 1) (two b 2) (two b 4) }
 
 -- a site and a partition
 abbrev pub pair : List ℕ → ℕ × ℕ
 pair bytes = (one bytes 0, one bytes 1)
 
 -- a command of one server: its site and its partition
-abbrev pub serverForm : (ℕ → ℕ → Command) → Form
-serverForm command = record { width = 2; make = λ b. command (one b 0) (one b 1) }
+abbrev pub server_form : (ℕ → ℕ → Command) → Form
+server_form command = record { width = 2; make = λ b. command (one b 0) (one b 1) }
 
 -- the form that a letter stands for, by its code
-abbrev pub formOf : ℕ → Option Form
-formOf letter =
+abbrev pub form_of : ℕ → Option Form
+form_of letter =
     -- L
-    cond (letter == 76) (Some layoutForm)
+    cond (letter == 76) (Some layout_form)
     -- S
-    (cond (letter == 83) (Some openSessionForm)
+    (cond (letter == 83) (Some open_session_form)
     -- T
-    (cond (letter == 84) (Some tellForm)
+    (cond (letter == 84) (Some tell_form)
     -- P
-    (cond (letter == 80) (Some putForm)
+    (cond (letter == 80) (Some put_form)
     -- G
-    (cond (letter == 71) (Some getForm)
+    (cond (letter == 71) (Some get_form)
     -- H
-    (cond (letter == 72) (Some (serverForm Heartbeat))
+    (cond (letter == 72) (Some (server_form Heartbeat))
     -- D
-    (cond (letter == 68) (Some deliverForm)
+    (cond (letter == 68) (Some deliver_form)
     -- R
-    (cond (letter == 82) (Some (serverForm Report))
+    (cond (letter == 82) (Some (server_form Report))
     -- U
-    (cond (letter == 85) (Some (serverForm Stabilise))
+    (cond (letter == 85) (Some (server_form Stabilise))
     -- C
-    (cond (letter == 67) (Some (serverForm Tidy))
+    (cond (letter == 67) (Some (server_form Tidy))
     -- Q
-    (cond (letter == 81) (Some (serverForm Lead))
+    (cond (letter == 81) (Some (server_form Lead))
     -- V
-    (cond (letter == 86) (Some viewForm) None)))))))))))
+    (cond (letter == 86) (Some view_form) None)))))))))))
 
 -- what is made of as many bytes as the width says, and the bytes after them, if there are enough
 abbrev pub taken : {A : Type 0} → ℕ → (List ℕ → A) → List ℕ → Result (A × List ℕ) Refusal
@@ -89,14 +89,14 @@ taken width make bytes = cond (nat_le width (length bytes)) (Ok (make bytes, dro
 abbrev pub formed : Form → List ℕ → Result (Command × List ℕ) Refusal
 formed f bytes = taken f.width f.make bytes
 
-abbrev pub readForm : Option Form → List ℕ → Result (Command × List ℕ) Refusal
-readForm None bytes = Err UnknownLetter
-readForm (Some f) bytes = formed f bytes
+abbrev pub read_form : Option Form → List ℕ → Result (Command × List ℕ) Refusal
+read_form None bytes = Err UnknownLetter
+read_form (Some f) bytes = formed f bytes
 
 -- the first command of a script, and the bytes after it
-abbrev pub readCommand : List ℕ → Result (Command × List ℕ) Refusal
-readCommand [] = Err ShortCommand
-readCommand (letter ∷ bytes) = readForm (formOf letter) bytes
+abbrev pub read_command : List ℕ → Result (Command × List ℕ) Refusal
+read_command [] = Err ShortCommand
+read_command (letter ∷ bytes) = read_form (form_of letter) bytes
 
 -- what was read, with the bytes that the reference to the rest holds
 abbrev pub rested : {A : Type 0} → Result (A × Bor (List ℕ)) Refusal → Result (A × List ℕ) Refusal

@@ -1,6 +1,6 @@
 // Bytes to commands.
 ghost use Rattle.std.specs.Prelude.{◌≡◌};
-ghost use Rattle.commands.specs.Commands.{deliverForm, formOf, formed, getForm, layoutForm, openSessionForm, pair, putForm, readCommand, readForm, rested, taken, tellForm, viewForm};
+ghost use Rattle.commands.specs.Commands.{deliver_form, form_of, formed, get_form, layout_form, open_session_form, pair, put_form, read_command, read_form, rested, taken, tell_form, view_form};
 ghost use Rattle.commands.specs.Laws.{ReaderLaw};
 
 use crate::command::Command;
@@ -8,7 +8,7 @@ use stamps::refusal::Refusal;
 
 // The first command of a script, and what is left after it.
 pub fn read<'a>(script: &'a [u8]) -> Result<(Command, &'a [u8]), Refusal>
-    ensures value { rested result ≡ readCommand script.now }
+    ensures value { rested result ≡ read_command script.now }
     ensures law { ReaderLaw script.now (rested result) }
 {
     let [letter, rest @ ..] = script else {
@@ -19,7 +19,7 @@ pub fn read<'a>(script: &'a [u8]) -> Result<(Command, &'a [u8]), Refusal>
 
 // The command of a letter.
 fn read_operands<'a>(letter: char, bytes: &'a [u8]) -> Result<(Command, &'a [u8]), Refusal>
-    ensures { rested result ≡ readForm (formOf letter) bytes.now }
+    ensures { rested result ≡ read_form (form_of letter) bytes.now }
 {
     match letter {
         'L' => read_layout(bytes),
@@ -54,7 +54,7 @@ fn read_operands<'a>(letter: char, bytes: &'a [u8]) -> Result<(Command, &'a [u8]
 }
 
 fn read_layout<'a>(bytes: &'a [u8]) -> Result<(Command, &'a [u8]), Refusal>
-    ensures { rested result ≡ formed layoutForm bytes.now }
+    ensures { rested result ≡ formed layout_form bytes.now }
 {
     let [sites, partitions, clock, marks, rest @ ..] = bytes else {
         return Err(Refusal::ShortCommand);
@@ -73,7 +73,7 @@ fn read_layout<'a>(bytes: &'a [u8]) -> Result<(Command, &'a [u8]), Refusal>
 }
 
 fn read_open_session<'a>(bytes: &'a [u8]) -> Result<(Command, &'a [u8]), Refusal>
-    ensures { rested result ≡ formed openSessionForm bytes.now }
+    ensures { rested result ≡ formed open_session_form bytes.now }
 {
     let [site, rest @ ..] = bytes else {
         return Err(Refusal::ShortCommand);
@@ -82,7 +82,7 @@ fn read_open_session<'a>(bytes: &'a [u8]) -> Result<(Command, &'a [u8]), Refusal
 }
 
 fn read_tell<'a>(bytes: &'a [u8]) -> Result<(Command, &'a [u8]), Refusal>
-    ensures { rested result ≡ formed tellForm bytes.now }
+    ensures { rested result ≡ formed tell_form bytes.now }
 {
     let [site, partition, a, b, c, d, e, f, rest @ ..] = bytes else {
         return Err(Refusal::ShortCommand);
@@ -100,7 +100,7 @@ fn read_tell<'a>(bytes: &'a [u8]) -> Result<(Command, &'a [u8]), Refusal>
 }
 
 fn read_put<'a>(bytes: &'a [u8]) -> Result<(Command, &'a [u8]), Refusal>
-    ensures { rested result ≡ formed putForm bytes.now }
+    ensures { rested result ≡ formed put_form bytes.now }
 {
     let [session, key_high, key_low, kind, a, b, c, d, rest @ ..] = bytes else {
         return Err(Refusal::ShortCommand);
@@ -120,7 +120,7 @@ fn read_put<'a>(bytes: &'a [u8]) -> Result<(Command, &'a [u8]), Refusal>
 }
 
 fn read_get<'a>(bytes: &'a [u8]) -> Result<(Command, &'a [u8]), Refusal>
-    ensures { rested result ≡ formed getForm bytes.now }
+    ensures { rested result ≡ formed get_form bytes.now }
 {
     let [session, key_high, key_low, rest @ ..] = bytes else {
         return Err(Refusal::ShortCommand);
@@ -131,7 +131,7 @@ fn read_get<'a>(bytes: &'a [u8]) -> Result<(Command, &'a [u8]), Refusal>
 }
 
 fn read_deliver<'a>(bytes: &'a [u8]) -> Result<(Command, &'a [u8]), Refusal>
-    ensures { rested result ≡ formed deliverForm bytes.now }
+    ensures { rested result ≡ formed deliver_form bytes.now }
 {
     let [from, to, partition, rest @ ..] = bytes else {
         return Err(Refusal::ShortCommand);
@@ -148,7 +148,7 @@ fn read_deliver<'a>(bytes: &'a [u8]) -> Result<(Command, &'a [u8]), Refusal>
 }
 
 fn read_view<'a>(bytes: &'a [u8]) -> Result<(Command, &'a [u8]), Refusal>
-    ensures { rested result ≡ formed viewForm bytes.now }
+    ensures { rested result ≡ formed view_form bytes.now }
 {
     let [
         session,

@@ -14,8 +14,8 @@ pub shift_none : {T : Type 0} (xs : List T) (gone k : ℕ) → k ≡ 0 → Shift
 shift_none xs gone k z = record { same_length = refl; moved = λ j d l. absurd (omega arith); rest = λ j d l. refl }
 
 -- the item at i, which is `gone` places past k, is copied to k
-pub shift-more : {T : Type 0} (old now : List T) (gone k next i : ℕ) (x : T) → i ≡ k + gone → next ≡ k + 1 → i < length old → Shifted old now gone k → Shifted old (set now k (get_or now i x)) gone next
-shift-more old now gone k next i x at one within h =
+pub shift_more : {T : Type 0} (old now : List T) (gone k next i : ℕ) (x : T) → i ≡ k + gone → next ≡ k + 1 → i < length old → Shifted old now gone k → Shifted old (set now k (get_or now i x)) gone next
+shift_more old now gone k next i x at one within h =
     record {
       same_length = search (rules, places, h.same_length);
       moved = λ j d l. grind (arith, cases_eq j k, get_or-set_other now k j (get_or now i x) d, get_or-set_same now k (get_or now i x) d, h.same_length, h.moved j d, h.rest i x, get_or_default old i x d);
@@ -23,8 +23,8 @@ shift-more old now gone k next i x at one within h =
     }
 
 -- all are moved
-pub shift-all : {T : Type 0} (old now : List T) (gone n k : ℕ) → gone + k ≡ n → n ≤ length old → Shifted old now gone k → take k now ≡ drop gone (take n old)
-shift-all old now gone n k sum le h =
+pub shift_all : {T : Type 0} (old now : List T) (gone n k : ℕ) → gone + k ≡ n → n ≤ length old → Shifted old now gone k → take k now ≡ drop gone (take n old)
+shift_all old now gone n k sum le h =
     let e = h.same_length in
     same_lists _ _ (search (rules, places)) (λ k d l. grind (arith, places, h.moved k d))
 

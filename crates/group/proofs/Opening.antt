@@ -6,10 +6,10 @@ use Rattle.stamps.specs.declared.refusal.Refusal.{Refusal}
 use Rattle.stamps.specs.declared.refusal.Refusal.TheVariants.{NotInLayout, NoneFree}
 use Rattle.fixed_vec.specs.Items.{pushed}
 use Rattle.fixed_vec.specs.declared.fixed_vec.Full.{Full}
-use Rattle.model.specs.Groups.{GroupState, newSession, withSessions}
-use Rattle.model.specs.Calls.{openedSession}
+use Rattle.model.specs.Groups.{GroupState, new_session, with_sessions}
+use Rattle.model.specs.Calls.{opened_session}
 use Rattle.group.specs.declared.session.Session.{Session}
-use Rattle.group.specs.Sessions.{sessionState}
+use Rattle.group.specs.Sessions.{session_state}
 use Rattle.group.proofs.Rows.{pushed_room}
 
 -- a push that is done had room
@@ -24,16 +24,16 @@ room_of {T} most xs ys x e =
     ]
 
 pub opened : (g : GroupState) (xs ys : List Session) (x : Session) (site number : ℕ) (r : Result (Unit {0}) Full)
-    → (r, ys) ≡ pushed 8 xs x → r ≡ Ok tt → g.sessions ≡ map sessionState xs → number ≡ length xs → sessionState x ≡ newSession site → ltb site g.sites ≡ true
-    → (Ok number, withSessions g (map sessionState ys)) ≡ openedSession g site
+    → (r, ys) ≡ pushed 8 xs x → r ≡ Ok tt → g.sessions ≡ map session_state xs → number ≡ length xs → session_state x ≡ new_session site → ltb site g.sites ≡ true
+    → (Ok number, with_sessions g (map session_state ys)) ≡ opened_session g site
 opened g xs ys x site number r e ok same count new has =
     let e' : (Ok tt, ys) ≡ pushed 8 xs x = ap (λ t. (t, ys)) (sym ok) ∙ e in
     let room = room_of 8 xs ys x e' in
-    let len : length g.sessions ≡ length xs = ap length same ∙ length-map xs sessionState in
-    let after : map sessionState ys ≡ g.sessions ++ (newSession site ∷ []) =
-    ap (map sessionState) (pushed_room 8 xs ys x (Ok tt) e' room) ∙ map-append sessionState xs (x ∷ []) ∙ ap (λ t. t ++ (sessionState x ∷ [])) (sym same) ∙ ap (λ t. g.sessions ++ (t ∷ [])) new
+    let len : length g.sessions ≡ length xs = ap length same ∙ length-map xs session_state in
+    let after : map session_state ys ≡ g.sessions ++ (new_session site ∷ []) =
+    ap (map session_state) (pushed_room 8 xs ys x (Ok tt) e' room) ∙ map-append session_state xs (x ∷ []) ∙ ap (λ t. t ++ (session_state x ∷ [])) (sym same) ∙ ap (λ t. g.sessions ++ (t ∷ [])) new
     in
-    let done : Result ℕ Refusal × GroupState = (Ok (length g.sessions), withSessions g (g.sessions ++ (newSession site ∷ []))) in
-    ap (λ t. (Ok t, withSessions g (map sessionState ys))) (count ∙ sym len) ∙ ap (λ t. (Ok (length g.sessions), withSessions g t)) after
+    let done : Result ℕ Refusal × GroupState = (Ok (length g.sessions), with_sessions g (g.sessions ++ (new_session site ∷ []))) in
+    ap (λ t. (Ok t, with_sessions g (map session_state ys))) (count ∙ sym len) ∙ ap (λ t. (Ok (length g.sessions), with_sessions g t)) after
     ∙ sym (cond-false (leb 8 (length g.sessions)) (Err NoneFree, g) done (lt-leb 8 (length g.sessions) (omega arith)))
     ∙ sym (cond-true (ltb site g.sites) _ (Err NotInLayout, g) has)

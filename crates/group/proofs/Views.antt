@@ -7,12 +7,12 @@ use Rattle.std.proofs.lemmas.Bool.Decides.{nat_tests}
 use Rattle.stamps.specs.declared.refusal.Refusal.{Refusal}
 use Rattle.stamps.specs.declared.refusal.Refusal.TheVariants.{NotInLayout}
 use Rattle.stamps.specs.declared.stamp.Stamp.{Stamp}
-use Rattle.stamps.specs.Checks.{stampNumber}
+use Rattle.stamps.specs.Checks.{stamp_number}
 use Rattle.stamps.specs.Refusals.{RefusalKeeps}
-use Rattle.servers.proofs.RowEntries.{by-site}
-use Rattle.servers.specs.Servers.{ServerState, fresh, view as serverView}
-use Rattle.model.specs.Groups.{GroupState, SessionState, SeatState, withServer}
-use Rattle.model.specs.Calls.{hasServer, serverLeft, onServer}
+use Rattle.servers.proofs.RowEntries.{by_site}
+use Rattle.servers.specs.Servers.{ServerState, fresh, view as server_view}
+use Rattle.model.specs.Groups.{GroupState, SessionState, SeatState, with_server}
+use Rattle.model.specs.Calls.{has_server, server_left, on_server}
 use Rattle.group.specs.declared.layout.Layout.{Layout}
 use Rattle.servers.specs.declared.server.Server.{Server}
 use Rattle.group.specs.declared.group.Group.{Group}
@@ -40,40 +40,40 @@ pub record Rest : Type 0 where
   pub next : ℕ
 
 -- the state of a group with these servers
-abbrev pub stateWith : Rest → (ℕ → ℕ → ServerState) → GroupState
-stateWith r server = record { sites = r.sites; partitions = r.partitions; server = server; sessions = r.sessions; seats = r.seats; nextSerial = r.next }
+abbrev pub state_with : Rest → (ℕ → ℕ → ServerState) → GroupState
+state_with r server = record { sites = r.sites; partitions = r.partitions; server = server; sessions = r.sessions; seats = r.seats; next_serial = r.next }
 
 abbrev pub rest_of : {C K Mark : Type 0} → Group C K Mark → Rest
 rest_of g =
     let s = view g in
-    record { sites = s.sites; partitions = s.partitions; sessions = s.sessions; seats = s.seats; next = s.nextSerial }
+    record { sites = s.sites; partitions = s.partitions; sessions = s.sessions; seats = s.seats; next = s.next_serial }
 
 -- one server replaced in the array is that server replaced in the group
-pub set-server : {C K Mark : Type 0} (rest : Rest) (servers : List (Server C K Mark)) (site partition p : ℕ) (new : Server C K Mark)
+pub set_server : {C K Mark : Type 0} (rest : Rest) (servers : List (Server C K Mark)) (site partition p : ℕ) (new : Server C K Mark)
     → length servers ≡ 16 → site < 4 → partition < 4 → p ≡ place_of site partition
-    → stateWith rest (at rest.sites (map serverView (set servers p new))) ≡ withServer (stateWith rest (at rest.sites (map serverView servers))) site partition (serverView new)
-set-server rest servers site partition p new len ls lp e =
-    let xs = map serverView servers in
-    ap (λ t. stateWith rest (at rest.sites t)) (map-set serverView servers p new ∙ ap (λ q. set xs q (serverView new)) e)
-    ∙ ap (stateWith rest) (at_set rest.sites xs site partition (serverView new) (length-map servers serverView ∙ len) ls lp)
+    → state_with rest (at rest.sites (map server_view (set servers p new))) ≡ with_server (state_with rest (at rest.sites (map server_view servers))) site partition (server_view new)
+set_server rest servers site partition p new len ls lp e =
+    let xs = map server_view servers in
+    ap (λ t. state_with rest (at rest.sites t)) (map-set server_view servers p new ∙ ap (λ q. set xs q (server_view new)) e)
+    ∙ ap (state_with rest) (at_set rest.sites xs site partition (server_view new) (length-map servers server_view ∙ len) ls lp)
 
 -- the server that stands in the array
 pub at_place : {C K Mark : Type 0} (sites : ℕ) (servers : List (Server C K Mark)) (site partition p : ℕ) (d : Server C K Mark)
     → length servers ≡ 16 → site < 4 → partition < 4
-    → p ≡ place_of site partition → at sites (map serverView servers) site partition ≡ serverView (get_or servers p d)
+    → p ≡ place_of site partition → at sites (map server_view servers) site partition ≡ server_view (get_or servers p d)
 at_place sites servers site partition p d len ls lp e =
-    let m = get_or-map serverView servers p d (fresh site sites) (omega arith) in
+    let m = get_or-map server_view servers p d (fresh site sites) (omega arith) in
     grind (arith, nat_tests, m)
 
 -- one server changed in the array is that server changed in the group
-pub change-server : {C K Mark : Type 0} (rest : Rest) (servers : List (Server C K Mark)) (site partition p : ℕ) (d new : Server C K Mark) (change : ServerState → ServerState)
-    → length servers ≡ 16 → site < 4 → partition < 4 → p ≡ place_of site partition → serverView new ≡ change (serverView (get_or servers p d))
-    → stateWith rest (at rest.sites (map serverView (set servers p new)))
-    ≡ withServer (stateWith rest (at rest.sites (map serverView servers))) site partition (change (at rest.sites (map serverView servers) site partition))
-change-server rest servers site partition p d new change len ls lp e step =
-    let g = stateWith rest (at rest.sites (map serverView servers)) in
-    set-server rest servers site partition p new len ls lp e
-    ∙ ap (λ s. withServer g site partition s) (step ∙ ap change (sym (at_place rest.sites servers site partition p d len ls lp e)))
+pub change_server_lem : {C K Mark : Type 0} (rest : Rest) (servers : List (Server C K Mark)) (site partition p : ℕ) (d new : Server C K Mark) (change : ServerState → ServerState)
+    → length servers ≡ 16 → site < 4 → partition < 4 → p ≡ place_of site partition → server_view new ≡ change (server_view (get_or servers p d))
+    → state_with rest (at rest.sites (map server_view (set servers p new)))
+    ≡ with_server (state_with rest (at rest.sites (map server_view servers))) site partition (change (at rest.sites (map server_view servers) site partition))
+change_server_lem rest servers site partition p d new change len ls lp e step =
+    let g = state_with rest (at rest.sites (map server_view servers)) in
+    set_server rest servers site partition p new len ls lp e
+    ∙ ap (λ s. with_server g site partition s) (step ∙ ap change (sym (at_place rest.sites servers site partition p d len ls lp e)))
 
 -- a server of the layout is one of four by four
 pub in_array : (layout : Layout) (site partition : ℕ) → (ltb site layout.sites.number && ltb partition layout.partitions) ≡ true → (site < 4) × (partition < 4)
@@ -84,74 +84,74 @@ in_array layout site partition has =
     (omega arith, omega arith)
 
 -- a server's answer, and the group with that server as it was left, are the group's answer and state
-pub left-server : {A : Type 0} (rest : Rest) (xs : List ServerState) (site partition : ℕ) (r : Result A Refusal) (s : ServerState)
+pub left_server : {A : Type 0} (rest : Rest) (xs : List ServerState) (site partition : ℕ) (r : Result A Refusal) (s : ServerState)
     → length xs ≡ 16 → site < 4 → partition < 4
     → RefusalKeeps r (at rest.sites xs site partition) s
-    → (r, stateWith rest (at rest.sites (set xs (place_of site partition) s))) ≡ serverLeft (stateWith rest (at rest.sites xs)) site partition (r, s)
-left-server rest xs site partition (Ok x) s len ls lp keeps = ap (λ t. (Ok x, stateWith rest t)) (at_set rest.sites xs site partition s len ls lp)
-left-server rest xs site partition (Err why) s len ls lp keeps = ap (λ t. (Err why, stateWith rest t)) (at_same rest.sites xs site partition s ls lp keeps)
+    → (r, state_with rest (at rest.sites (set xs (place_of site partition) s))) ≡ server_left (state_with rest (at rest.sites xs)) site partition (r, s)
+left_server rest xs site partition (Ok x) s len ls lp keeps = ap (λ t. (Ok x, state_with rest t)) (at_set rest.sites xs site partition s len ls lp)
+left_server rest xs site partition (Err why) s len ls lp keeps = ap (λ t. (Err why, state_with rest t)) (at_same rest.sites xs site partition s ls lp keeps)
 
 -- a call of the server at p, as the group's answer and state
-pub call-server : {C K Mark A : Type 0} (rest : Rest) (servers : List (Server C K Mark)) (site partition p : ℕ) (d new : Server C K Mark) (r : Result A Refusal)
+pub call_server : {C K Mark A : Type 0} (rest : Rest) (servers : List (Server C K Mark)) (site partition p : ℕ) (d new : Server C K Mark) (r : Result A Refusal)
     (act : ServerState → Result A Refusal × ServerState)
     → length servers ≡ 16 → site < 4 → partition < 4 → p ≡ place_of site partition
-    → (r, serverView new) ≡ act (serverView (get_or servers p d)) → RefusalKeeps r (serverView (get_or servers p d)) (serverView new)
-    → (r, stateWith rest (at rest.sites (map serverView (set servers p new))))
-    ≡ serverLeft (stateWith rest (at rest.sites (map serverView servers))) site partition (act (at rest.sites (map serverView servers) site partition))
-call-server rest servers site partition p d new r act len ls lp e step keeps =
+    → (r, server_view new) ≡ act (server_view (get_or servers p d)) → RefusalKeeps r (server_view (get_or servers p d)) (server_view new)
+    → (r, state_with rest (at rest.sites (map server_view (set servers p new))))
+    ≡ server_left (state_with rest (at rest.sites (map server_view servers))) site partition (act (at rest.sites (map server_view servers) site partition))
+call_server rest servers site partition p d new r act len ls lp e step keeps =
     let sites = rest.sites in
-    let xs = map serverView servers in
+    let xs = map server_view servers in
     let there = at_place sites servers site partition p d len ls lp e in
-    ap (λ t. (r, stateWith rest (at sites t))) (map-set serverView servers p new ∙ ap (λ q. set xs q (serverView new)) e)
-    ∙ left-server rest xs site partition r (serverView new) (length-map servers serverView ∙ len) ls lp (subst (λ s. RefusalKeeps r s (serverView new)) (sym there) keeps)
-    ∙ ap (serverLeft (stateWith rest (at sites xs)) site partition) (step ∙ ap act (sym there))
+    ap (λ t. (r, state_with rest (at sites t))) (map-set server_view servers p new ∙ ap (λ q. set xs q (server_view new)) e)
+    ∙ left_server rest xs site partition r (server_view new) (length-map servers server_view ∙ len) ls lp (subst (λ s. RefusalKeeps r s (server_view new)) (sym there) keeps)
+    ∙ ap (server_left (state_with rest (at sites xs)) site partition) (step ∙ ap act (sym there))
 
 -- a call of the server at p, as the call of the group
-pub on-server : {C K Mark A : Type 0} (layout : Layout) (rest : Rest) (servers : List (Server C K Mark)) (site partition p : ℕ) (d new : Server C K Mark) (r : Result A Refusal)
+pub on_server_lem : {C K Mark A : Type 0} (layout : Layout) (rest : Rest) (servers : List (Server C K Mark)) (site partition p : ℕ) (d new : Server C K Mark) (r : Result A Refusal)
     (act : ServerState → Result A Refusal × ServerState)
     → rest.sites ≡ layout.sites.number → rest.partitions ≡ layout.partitions
     → length servers ≡ 16 → (ltb site layout.sites.number && ltb partition layout.partitions) ≡ true
     → p ≡ place_of site partition
-    → (r, serverView new) ≡ act (serverView (get_or servers p d)) → RefusalKeeps r (serverView (get_or servers p d)) (serverView new)
-    → (r, stateWith rest (at rest.sites (map serverView (set servers p new)))) ≡ onServer (stateWith rest (at rest.sites (map serverView servers))) site partition act
-on-server layout rest servers site partition p d new r act es ep len has e step keeps =
-    let g = stateWith rest (at rest.sites (map serverView servers)) in
+    → (r, server_view new) ≡ act (server_view (get_or servers p d)) → RefusalKeeps r (server_view (get_or servers p d)) (server_view new)
+    → (r, state_with rest (at rest.sites (map server_view (set servers p new)))) ≡ on_server (state_with rest (at rest.sites (map server_view servers))) site partition act
+on_server_lem layout rest servers site partition p d new r act es ep len has e step keeps =
+    let g = state_with rest (at rest.sites (map server_view servers)) in
     let l = in_array layout site partition has in
-    let has' : hasServer g site partition ≡ true = rw (es, ep) has in
-    call-server rest servers site partition p d new r act len l.0 l.1 e step keeps
-    ∙ sym (cond-true _ (serverLeft g site partition (act (g.server site partition))) (Err NotInLayout, g) has')
+    let has' : has_server g site partition ≡ true = rw (es, ep) has in
+    call_server rest servers site partition p d new r act len l.0 l.1 e step keeps
+    ∙ sym (cond-true _ (server_left g site partition (act (g.server site partition))) (Err NotInLayout, g) has')
 
 -- a refusal leaves the group as it was
-pub on-server-keeps : {A : Type 0} (g after : GroupState) (site partition : ℕ) (r : Result A Refusal) (act : ServerState → Result A Refusal × ServerState)
-    → (r, after) ≡ onServer g site partition act → RefusalKeeps r g after
-on-server-keeps g after site partition r act e = subst (λ t. RefusalKeeps t.0 g t.1) (sym e) (by-test (hasServer g site partition) (act (g.server site partition)))
+pub on_server_keeps : {A : Type 0} (g after : GroupState) (site partition : ℕ) (r : Result A Refusal) (act : ServerState → Result A Refusal × ServerState)
+    → (r, after) ≡ on_server g site partition act → RefusalKeeps r g after
+on_server_keeps g after site partition r act e = subst (λ t. RefusalKeeps t.0 g t.1) (sym e) (by_test (has_server g site partition) (act (g.server site partition)))
   where
-    by_result : {A : Type 0} (t : Result A Refusal × ServerState) → RefusalKeeps (serverLeft g site partition t).0 g (serverLeft g site partition t).1
+    by_result : {A : Type 0} (t : Result A Refusal × ServerState) → RefusalKeeps (server_left g site partition t).0 g (server_left g site partition t).1
     by_result (Ok x, s) = tt
     by_result (Err why, s) = refl
 
-    by-test : {A : Type 0} (b : Bool) (t : Result A Refusal × ServerState)
-        → RefusalKeeps (cond b (serverLeft g site partition t) (Err NotInLayout, g)).0 g (cond b (serverLeft g site partition t) (Err NotInLayout, g)).1
-    by-test true t = by_result t
-    by-test false t = refl
+    by_test : {A : Type 0} (b : Bool) (t : Result A Refusal × ServerState)
+        → RefusalKeeps (cond b (server_left g site partition t) (Err NotInLayout, g)).0 g (cond b (server_left g site partition t) (Err NotInLayout, g)).1
+    by_test true t = by_result t
+    by_test false t = refl
 
 -- the same of a stamp's number
-pub keeps-stamp : {S : Type 0} (before after : S) (r : Result Stamp Refusal) → RefusalKeeps (stampNumber r) before after → RefusalKeeps r before after
-keeps-stamp before after (Ok s) keeps = tt
-keeps-stamp before after (Err why) keeps = keeps
+pub keeps_stamp : {S : Type 0} (before after : S) (r : Result Stamp Refusal) → RefusalKeeps (stamp_number r) before after → RefusalKeeps r before after
+keeps_stamp before after (Ok s) keeps = tt
+keeps_stamp before after (Err why) keeps = keeps
 
-pub keeps-number : {S : Type 0} (before after : S) (r : Result Stamp Refusal) → RefusalKeeps r before after → RefusalKeeps (stampNumber r) before after
-keeps-number before after (Ok s) keeps = tt
-keeps-number before after (Err why) keeps = keeps
+pub keeps_number : {S : Type 0} (before after : S) (r : Result Stamp Refusal) → RefusalKeeps r before after → RefusalKeeps (stamp_number r) before after
+keeps_number before after (Ok s) keeps = tt
+keeps_number before after (Err why) keeps = keeps
 
 -- four servers of each site, as they are made
 abbrev quartets : ServerState → ServerState → ServerState → ServerState → List ServerState
 quartets a b c d = a ∷ a ∷ a ∷ a ∷ b ∷ b ∷ b ∷ b ∷ c ∷ c ∷ c ∷ c ∷ d ∷ d ∷ d ∷ d ∷ []
 
-pub at-made : (sites : ℕ) (a b c d : ServerState) → a ≡ fresh 0 sites → b ≡ fresh 1 sites → c ≡ fresh 2 sites → d ≡ fresh 3 sites
+pub at_made : (sites : ℕ) (a b c d : ServerState) → a ≡ fresh 0 sites → b ≡ fresh 1 sites → c ≡ fresh 2 sites → d ≡ fresh 3 sites
     → at sites (quartets a b c d) ≡ (λ site partition. fresh site sites)
-at-made sites a b c d p q r s =
-    rw (p, q, r, s) (fun_ext λ i. fun_ext λ n. by-site (λ j. at sites fours j n ≡ fresh j sites)
+at_made sites a b c d p q r s =
+    rw (p, q, r, s) (fun_ext λ i. fun_ext λ n. by_site (λ j. at sites fours j n ≡ fresh j sites)
     (at_one 0 refl refl refl refl n) (at_one 1 refl refl refl refl n) (at_one 2 refl refl refl refl n) (at_one 3 refl refl refl refl n)
     (λ m. cond-false (ltb (suc (suc (suc (suc m)))) 4 && ltb n 4) _ (fresh (suc (suc (suc (suc m)))) sites) (and_left (ltb (suc (suc (suc (suc m)))) 4) (ltb n 4) (le-ltb (suc (suc (suc (suc m)))) 4 (omega arith)))) i)
   where
@@ -161,5 +161,5 @@ at-made sites a b c d p q r s =
     at_one : (site : ℕ) → at sites fours site 0 ≡ fresh site sites → at sites fours site 1 ≡ fresh site sites → at sites fours site 2 ≡ fresh site sites → at sites fours site 3 ≡ fresh site sites
         → (n : ℕ) → at sites fours site n ≡ fresh site sites
     at_one site e f g h n =
-        by-site (λ m. at sites fours site m ≡ fresh site sites) e f g h
+        by_site (λ m. at sites fours site m ≡ fresh site sites) e f g h
         (λ m. cond-false (ltb site 4 && ltb (suc (suc (suc (suc m)))) 4) _ (fresh site sites) (and_right (ltb site 4) (ltb (suc (suc (suc (suc m)))) 4) (le-ltb (suc (suc (suc (suc m)))) 4 (omega arith)))) n

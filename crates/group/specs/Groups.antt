@@ -1,13 +1,13 @@
 -- A group in plain numbers.
 use Rattle.std.specs.Prelude.{ℕ, ◌+◌, ◌*◌, cond, ◌&&◌, List, map, nat_lt, slice_index_or}
 use Rattle.fixed_vec.specs.Items.{items}
-use Rattle.servers.specs.Servers.{ServerState, fresh, view as serverView}
-use Rattle.servers.specs.Versions.{VersionState, fullMark}
+use Rattle.servers.specs.Servers.{ServerState, fresh, view as server_view}
+use Rattle.servers.specs.Versions.{VersionState, full_mark}
 use Rattle.stamps.specs.Rows.{join}
 use Rattle.marks.specs.Kinds.{Kind}
-use Rattle.model.specs.Groups.{GroupState, sessionAt, withSession}
+use Rattle.model.specs.Groups.{GroupState, session_at, with_session}
 use Rattle.model.specs.Calls.{depending}
-use Rattle.group.specs.Sessions.{sessionState, seatStates}
+use Rattle.group.specs.Sessions.{session_state, seat_states}
 use Rattle.group.specs.declared.group.Group.{Group}
 
 -- servers stand site by site, four to a site
@@ -24,14 +24,14 @@ view g =
     record {
       sites = g.layout.sites.number;
       partitions = g.layout.partitions;
-      server = at g.layout.sites.number (map serverView g.servers);
-      sessions = map sessionState (items g.sessions);
-      seats = seatStates g.seats;
-      nextSerial = g.next_serial;
+      server = at g.layout.sites.number (map server_view g.servers);
+      sessions = map session_state (items g.sessions);
+      seats = seat_states g.seats;
+      next_serial = g.next_serial;
     }
 
 -- a session depends on a version from then on
-abbrev pub dependingOn : Kind → GroupState → ℕ → VersionState → GroupState
-dependingOn k g i v =
-    let x = sessionAt g i in
-    withSession g i (depending k x (join (k.floor x.depends) (fullMark k v)))
+abbrev pub depending_on : Kind → GroupState → ℕ → VersionState → GroupState
+depending_on k g i v =
+    let x = session_at g i in
+    with_session g i (depending k x (join (k.floor x.depends) (full_mark k v)))

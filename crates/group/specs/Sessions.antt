@@ -5,34 +5,34 @@ use Rattle.stamps.specs.declared.refusal.Refusal.{Refusal}
 use Rattle.stamps.specs.declared.refusal.Refusal.TheVariants.{NotOpen}
 use Rattle.stamps.specs.declared.row.Row.{Row}
 use Rattle.stamps.specs.Rows.{Four, four}
-use Rattle.model.specs.Groups.{GroupState, SessionState, SeatState, sessionAt}
+use Rattle.model.specs.Groups.{GroupState, SessionState, SeatState, session_at}
 use Rattle.group.specs.declared.session.Session.{Session}
 use Rattle.group.specs.declared.seat.Seat.{Seat}
 use Rattle.group.specs.declared.seats.Seats.{Seats}
 
-abbrev pub sessionState : Session → SessionState
-sessionState x = record { site = x.site.number; depends = four x.depends.entries; knows = four x.knows.entries }
+abbrev pub session_state : Session → SessionState
+session_state x = record { site = x.site.number; depends = four x.depends.entries; knows = four x.knows.entries }
 
-abbrev pub seatState : Seat → SeatState
-seatState y = record { session = y.session; serial = y.serial; cut = four y.cut.entries }
+abbrev pub seat_state : Seat → SeatState
+seat_state y = record { session = y.session; serial = y.serial; cut = four y.cut.entries }
 
 -- the four seats, each free or with its open snapshot
-abbrev pub seatStates : Seats → List (Option SeatState)
-seatStates s = map (option_map seatState) s.places
+abbrev pub seat_states : Seats → List (Option SeatState)
+seat_states s = map (option_map seat_state) s.places
 
-abbrev pub rowNumbers : Row → Four
-rowNumbers row = four row.entries
+abbrev pub row_numbers : Row → Four
+row_numbers row = four row.entries
 
 -- the cut of an open snapshot of a site's session
 abbrev pub cut_in : GroupState → ℕ → Option SeatState → Option Four
 cut_in g site None = None
-cut_in g site (Some y) = cond ((sessionAt g y.session).site == site) (Some y.cut) None
+cut_in g site (Some y) = cond ((session_at g y.session).site == site) (Some y.cut) None
 
 -- the open snapshot at a seat, if it is open under a serial number
 abbrev pub open_at : ℕ → Option SeatState → Result SeatState Refusal
 open_at serial None = Err NotOpen
 open_at serial (Some y) = cond (y.serial == serial) (Ok y) (Err NotOpen)
 
-abbrev pub seatNumbers : Result Seat Refusal → Result SeatState Refusal
-seatNumbers (Ok y) = Ok (seatState y)
-seatNumbers (Err why) = Err why
+abbrev pub seat_numbers : Result Seat Refusal → Result SeatState Refusal
+seat_numbers (Ok y) = Ok (seat_state y)
+seat_numbers (Err why) = Err why

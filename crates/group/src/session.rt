@@ -1,7 +1,7 @@
 // One client's sequence of calls.
 ghost use Rattle.std.specs.Prelude.{◌≡◌};
-ghost use Rattle.model.specs.Groups.{newSession};
-ghost use Rattle.group.specs.Sessions.{sessionState};
+ghost use Rattle.model.specs.Groups.{new_session};
+ghost use Rattle.group.specs.Sessions.{session_state};
 
 use stamps::row::Row;
 use stamps::site::Site;
@@ -18,7 +18,7 @@ pub(crate) struct Session {
 
 impl Session {
     pub(crate) fn new(site: Site) -> Session
-        ensures { sessionState result ≡ newSession site.number }
+        ensures { session_state result ≡ new_session site.number }
     {
         let zero = Row::same(Stamp::zero());
         Session {

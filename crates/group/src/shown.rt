@@ -1,8 +1,8 @@
 // What a get or a read shows of its key.
 ghost use Rattle.std.specs.Prelude.{◌≡◌};
 ghost use Rattle.servers.specs.Versions.{plain};
-ghost use Rattle.model.specs.Calls.{shownOf};
-ghost use Rattle.group.specs.Answers.{shownState};
+ghost use Rattle.model.specs.Calls.{shown_of};
+ghost use Rattle.group.specs.Answers.{shown_state};
 
 use servers::value::Value;
 use servers::version::Version;
@@ -19,7 +19,7 @@ pub struct Shown {
 
 impl Shown {
     pub(crate) fn of(version: &Version) -> Shown
-        ensures { shownState result ≡ shownOf (plain version.now) }
+        ensures { shown_state result ≡ shown_of (plain version.now) }
     {
         Shown {
             value: version.value(),

@@ -1,7 +1,7 @@
 -- The common floor of a run of rows.
 use Rattle.std.specs.Prelude.{List, [], ◌∷◌}
 use Rattle.stamps.specs.Rows.{Four, Stamps, four, same, meet, Covers}
-use Rattle.stamps.specs.Stamps.{lastStamp}
+use Rattle.stamps.specs.Stamps.{last_stamp}
 use Rattle.marks.specs.Kinds.{Kind}
 use Rattle.stamps.specs.declared.row.Row.{Row}
 
@@ -11,9 +11,9 @@ numbers [] = []
 numbers (r ∷ rs) = four r.entries ∷ numbers rs
 
 -- the meet of all rows, each taken as a mark
-abbrev pub commonFloor : Kind → List Four → Four
-commonFloor k [] = same lastStamp
-commonFloor k (x ∷ xs) = meet (k.floor x) (commonFloor k xs)
+abbrev pub common_floor : Kind → List Four → Four
+common_floor k [] = same last_stamp
+common_floor k (x ∷ xs) = meet (k.floor x) (common_floor k xs)
 
 -- every row of the run covers the mark
 abbrev pub AllCover : List Four → Four → Type 0

@@ -3,11 +3,11 @@ use Rattle.std.specs.Prelude.{ℕ, Bool, true, false, ◌&&◌, List, [], ◌∷
 use Rattle.stamps.specs.declared.refusal.Refusal.{Refusal}
 use Rattle.stamps.specs.declared.refusal.Refusal.TheVariants.{Early}
 use Rattle.stamps.specs.Refusals.{number_of}
-use Rattle.stamps.specs.Stamps.{stampOf}
+use Rattle.stamps.specs.Stamps.{stamp_of}
 use Rattle.stamps.specs.Rows.{Four, same, covers}
 use Rattle.stamps.specs.Clocks.{raw, hybrid}
-use Rattle.stamps.specs.Outside.{signedNumber}
-use Rattle.marks.specs.BuiltKinds.{oneKind, eachKind}
+use Rattle.stamps.specs.Outside.{signed_number}
+use Rattle.marks.specs.BuiltKinds.{one_kind, each_kind}
 
 pub data Edge : Type 0 where
   -- a rule, the last stamp, the reading, the dependency, and the answer
@@ -20,38 +20,38 @@ row5394 = record { site0 = 5; site1 = 3; site2 = 9; site3 = 4 }
 
 abbrev pub edges : List Edge
 edges =
-    stamped hybrid (stampOf 0 0) 100 (stampOf 0 0) (Ok (stampOf 100 0))
-    ∷ stamped hybrid (stampOf 100 3) 90 (stampOf 100 7) (Ok (stampOf 100 8))
-    ∷ stamped hybrid (stampOf 100 65535) 100 (stampOf 0 0) (Ok (stampOf 101 0))
-    ∷ stamped raw (stampOf 100 0) 100 (stampOf 0 0) (Err Early)
-    ∷ stamped raw (stampOf 100 0) 101 (stampOf 0 0) (Ok (stampOf 101 0))
-    ∷ stamped raw (stampOf 0 0) 100 (stampOf 100 0) (Err Early)
-    ∷ floored oneKind.floor row5394 (same 3)
-    ∷ floored eachKind.floor row5394 row5394
+    stamped hybrid (stamp_of 0 0) 100 (stamp_of 0 0) (Ok (stamp_of 100 0))
+    ∷ stamped hybrid (stamp_of 100 3) 90 (stamp_of 100 7) (Ok (stamp_of 100 8))
+    ∷ stamped hybrid (stamp_of 100 65535) 100 (stamp_of 0 0) (Ok (stamp_of 101 0))
+    ∷ stamped raw (stamp_of 100 0) 100 (stamp_of 0 0) (Err Early)
+    ∷ stamped raw (stamp_of 100 0) 101 (stamp_of 0 0) (Ok (stamp_of 101 0))
+    ∷ stamped raw (stamp_of 0 0) 100 (stamp_of 100 0) (Err Early)
+    ∷ floored one_kind.floor row5394 (same 3)
+    ∷ floored each_kind.floor row5394 row5394
     ∷ []
 
-abbrev pub sameAnswer : Result ℕ Refusal → Result ℕ Refusal → Bool
-sameAnswer (Ok s) (Ok t) = s == t
-sameAnswer (Ok s) (Err why) = false
-sameAnswer (Err why) (Ok t) = false
-sameAnswer (Err why) (Err other) = number_of why == number_of other
+abbrev pub same_answer : Result ℕ Refusal → Result ℕ Refusal → Bool
+same_answer (Ok s) (Ok t) = s == t
+same_answer (Ok s) (Err why) = false
+same_answer (Err why) (Ok t) = false
+same_answer (Err why) (Err other) = number_of why == number_of other
 
 abbrev pub holds : Edge → Bool
-holds (stamped rule last reading dependency answer) = sameAnswer (rule last reading dependency) answer
+holds (stamped rule last reading dependency answer) = same_answer (rule last reading dependency) answer
 holds (floored floor row answer) = covers (floor row) answer && covers answer (floor row)
 
-abbrev pub allHold : List Edge → Bool
-allHold [] = true
-allHold (e ∷ es) = holds e && allHold es
+abbrev pub all_hold : List Edge → Bool
+all_hold [] = true
+all_hold (e ∷ es) = holds e && all_hold es
 
 -- the numbers of an edge's answer
-abbrev pub entriesOf : Four → List ℤ
-entriesOf row = pos row.site0 ∷ pos row.site1 ∷ pos row.site2 ∷ pos row.site3 ∷ []
+abbrev pub entries_of : Four → List ℤ
+entries_of row = pos row.site0 ∷ pos row.site1 ∷ pos row.site2 ∷ pos row.site3 ∷ []
 
 abbrev pub answer_of : Edge → List ℤ
-answer_of (stamped rule last reading dependency answer) = signedNumber answer ∷ []
-answer_of (floored floor row answer) = entriesOf answer
+answer_of (stamped rule last reading dependency answer) = signed_number answer ∷ []
+answer_of (floored floor row answer) = entries_of answer
 
-abbrev pub answersOf : List Edge → List ℤ
-answersOf [] = []
-answersOf (e ∷ es) = answer_of e ++ answersOf es
+abbrev pub answers_of : List Edge → List ℤ
+answers_of [] = []
+answers_of (e ∷ es) = answer_of e ++ answers_of es

@@ -15,16 +15,16 @@ pub record Kind : Type 1 where
 -- All of it is said of rows of stamps.
 pub record LawfulKind (k : Kind) : Type 0 where
   -- the kind has every row of four equal stamps, and the join and meet of its rows
-  pub same-means : (s : ℕ) → s < 2 ^ 63 → k.Means (same s)
-  pub join-means : (x y : Four) → Stamps x → Stamps y → k.Means x → k.Means y → k.Means (join x y)
-  pub meet-means : (x y : Four) → Stamps x → Stamps y → k.Means x → k.Means y → k.Means (meet x y)
+  pub same_means : (s : ℕ) → s < 2 ^ 63 → k.Means (same s)
+  pub join_means : (x y : Four) → Stamps x → Stamps y → k.Means x → k.Means y → k.Means (join x y)
+  pub meet_means : (x y : Four) → Stamps x → Stamps y → k.Means x → k.Means y → k.Means (meet x y)
   -- the floor of a row is a mark, the row covers it, and it covers every mark that the row covers
-  pub floor-means : (x : Four) → Stamps x → k.Means (k.floor x)
-  pub floor-below : (x : Four) → Stamps x → Covers x (k.floor x)
-  pub floor-greatest : (x y : Four) → Stamps x → Stamps y → k.Means y → Covers x y → Covers (k.floor x) y
+  pub floor_means : (x : Four) → Stamps x → k.Means (k.floor x)
+  pub floor_below : (x : Four) → Stamps x → Covers x (k.floor x)
+  pub floor_greatest : (x y : Four) → Stamps x → Stamps y → k.Means y → Covers x y → Covers (k.floor x) y
   -- a mark's row is its own floor
-  pub floor-own : (x : Four) → Stamps x → k.Means x → k.floor x ≡ x
+  pub floor_own : (x : Four) → Stamps x → k.Means x → k.floor x ≡ x
   -- a lift is a mark with at least that stamp at that site, and every such mark covers it
-  pub lift-means : (site s : ℕ) → site < 4 → s < 2 ^ 63 → k.Means (k.lift site s)
-  pub lift-reaches : (site s : ℕ) → site < 4 → s < 2 ^ 63 → s ≤ at (k.lift site s) site
-  pub lift-least : (site s : ℕ) (y : Four) → site < 4 → s < 2 ^ 63 → Stamps y → k.Means y → s ≤ at y site → Covers y (k.lift site s)
+  pub lift_means : (site s : ℕ) → site < 4 → s < 2 ^ 63 → k.Means (k.lift site s)
+  pub lift_reaches : (site s : ℕ) → site < 4 → s < 2 ^ 63 → s ≤ at (k.lift site s) site
+  pub lift_least : (site s : ℕ) (y : Four) → site < 4 → s < 2 ^ 63 → Stamps y → k.Means y → s ≤ at y site → Covers y (k.lift site s)

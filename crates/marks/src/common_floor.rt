@@ -1,8 +1,8 @@
 // The common floor of a run of rows, for every kind of mark.
 ghost use Rattle.std.specs.Prelude.{◌≡◌};
 ghost use Rattle.stamps.specs.Rows.{same};
-ghost use Rattle.stamps.specs.Stamps.{lastStamp};
-ghost use Rattle.marks.specs.CommonFloors.{commonFloor, GreatestCommon, numbers};
+ghost use Rattle.stamps.specs.Stamps.{last_stamp};
+ghost use Rattle.marks.specs.CommonFloors.{common_floor, GreatestCommon, numbers};
 
 use crate::mark_kind::MarkKind;
 use stamps::row::Row;
@@ -11,7 +11,7 @@ use stamps::stamp::Stamp;
 // The greatest mark that every row of the run covers; of no rows, the last stamp at each entry.
 // Each row is taken as a mark by the kind's floor.
 pub fn common_floor<K: MarkKind>(rows: &[Row]) -> K::Mark
-    ensures value { K.MarkKind.meaning result ≡ commonFloor K.MarkKind.kind (numbers rows.now) }
+    ensures value { K.MarkKind.meaning result ≡ common_floor K.MarkKind.kind (numbers rows.now) }
     ensures greatest { GreatestCommon K.MarkKind.kind (numbers rows.now) (K.MarkKind.meaning result) }
 {
     lowered::<K>(last_mark::<K>(), rows)
@@ -19,15 +19,15 @@ pub fn common_floor<K: MarkKind>(rows: &[Row]) -> K::Mark
 
 // The greatest mark: the last stamp at each entry.
 fn last_mark<K: MarkKind>() -> K::Mark
-    ensures { K.MarkKind.meaning result ≡ same lastStamp }
+    ensures { K.MarkKind.meaning result ≡ same last_stamp }
 {
     K::floor(Row::same(Stamp::last()))
 }
 
 // The greatest mark, lowered by each row of the run.
 fn lowered<K: MarkKind>(last: K::Mark, rows: &[Row]) -> K::Mark
-    requires { K.MarkKind.meaning last ≡ same lastStamp }
-    ensures value { K.MarkKind.meaning result ≡ commonFloor K.MarkKind.kind (numbers rows.now) }
+    requires { K.MarkKind.meaning last ≡ same last_stamp }
+    ensures value { K.MarkKind.meaning result ≡ common_floor K.MarkKind.kind (numbers rows.now) }
     ensures greatest { GreatestCommon K.MarkKind.kind (numbers rows.now) (K.MarkKind.meaning result) }
 {
     let mut mark = last;

@@ -1,5 +1,5 @@
 // The kind of mark that is a stamp for each site.
-ghost use Rattle.marks.specs.BuiltKinds.{eachKind, eachRow};
+ghost use Rattle.marks.specs.BuiltKinds.{each_kind, each_row};
 ghost use Rattle.std.proofs.Common.{rules};
 
 use crate::mark_kind::MarkKind;
@@ -16,9 +16,9 @@ impl MarkKind for Each {
 
     ghost COLUMNS = { 4 };
 
-    ghost kind = { eachKind };
+    ghost kind = { each_kind };
 
-    ghost meaning = { eachRow };
+    ghost meaning = { each_row };
 
     ghost lawful = { Prim.search rules };
 

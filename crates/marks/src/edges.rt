@@ -1,6 +1,6 @@
 // The worked edges of both clock rules and of floor, run by the code.
 ghost use Rattle.std.specs.Prelude.{◌≡◌, true, take, drop};
-ghost use Rattle.marks.specs.Edges.{edges, answersOf, allHold, entriesOf, row5394};
+ghost use Rattle.marks.specs.Edges.{edges, answers_of, all_hold, entries_of, row5394};
 
 use crate::each::Each;
 use crate::mark_kind::MarkKind;
@@ -21,11 +21,11 @@ pub struct EdgeAnswers {
 
 // The edges as the code answers them. The contract also says that the table itself holds.
 pub fn worked_edges() -> EdgeAnswers
-    ensures hybrid { result.hybrid ≡ answersOf (take 3 edges) }
-    ensures raw { result.raw ≡ answersOf (take 3 (drop 3 edges)) }
-    ensures one_floor { result.one_floor ≡ answersOf (take 1 (drop 6 edges)) }
-    ensures each_floor { result.each_floor ≡ answersOf (drop 7 edges) }
-    ensures table { allHold edges ≡ true }
+    ensures hybrid { result.hybrid ≡ answers_of (take 3 edges) }
+    ensures raw { result.raw ≡ answers_of (take 3 (drop 3 edges)) }
+    ensures one_floor { result.one_floor ≡ answers_of (take 1 (drop 6 edges)) }
+    ensures each_floor { result.each_floor ≡ answers_of (drop 7 edges) }
+    ensures table { all_hold edges ≡ true }
 {
     EdgeAnswers {
         hybrid: hybrid_edges(),
@@ -36,7 +36,7 @@ pub fn worked_edges() -> EdgeAnswers
 }
 
 fn hybrid_edges() -> [i64; 3]
-    ensures { result ≡ answersOf (take 3 edges) }
+    ensures { result ≡ answers_of (take 3 edges) }
 {
     [
         hybrid_stamp(0, 100, 0),
@@ -46,7 +46,7 @@ fn hybrid_edges() -> [i64; 3]
 }
 
 fn raw_edges() -> [i64; 3]
-    ensures { result ≡ answersOf (take 3 (drop 3 edges)) }
+    ensures { result ≡ answers_of (take 3 (drop 3 edges)) }
 {
     [
         raw_stamp(T100, 100, 0),
@@ -57,7 +57,7 @@ fn raw_edges() -> [i64; 3]
 
 // The entries of the floor of the row 5, 3, 9, 4.
 fn floor_edge<K: MarkKind>() -> [i64; 4]
-    ensures { result ≡ entriesOf (K.MarkKind.kind.floor row5394) }
+    ensures { result ≡ entries_of (K.MarkKind.kind.floor row5394) }
 {
     match floor_from::<K>([5, 3, 9, 4]) {
         Ok(mark) => {

@@ -1,5 +1,5 @@
 // The kind of mark that is one stamp, the same for every site.
-ghost use Rattle.marks.specs.BuiltKinds.{oneKind, oneRow};
+ghost use Rattle.marks.specs.BuiltKinds.{one_kind, one_row};
 ghost use Rattle.std.proofs.Common.{rules};
 
 use crate::mark_kind::MarkKind;
@@ -16,9 +16,9 @@ impl MarkKind for One {
 
     ghost COLUMNS = { 1 };
 
-    ghost kind = { oneKind };
+    ghost kind = { one_kind };
 
-    ghost meaning = { oneRow };
+    ghost meaning = { one_row };
 
     ghost lawful = { Prim.search rules };
 

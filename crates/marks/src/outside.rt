@@ -1,6 +1,6 @@
 // Kinds of mark, asked with plain numbers: these are checked first, stamps before sites.
 ghost use Rattle.std.specs.Prelude.{◌≡◌};
-ghost use Rattle.marks.specs.Outside.{askedFloor, askedLift, row_of};
+ghost use Rattle.marks.specs.Outside.{asked_floor, asked_lift, row_of};
 
 use crate::mark_kind::MarkKind;
 use stamps::refusal::Refusal;
@@ -10,14 +10,14 @@ use stamps::stamp::Stamp;
 
 // The floor of four numbers as a row.
 pub fn floor_from<K: MarkKind>(entries: [u64; 4]) -> Result<K::Mark, Refusal>
-    ensures { row_of K.MarkKind.meaning result ≡ askedFloor K.MarkKind.kind entries }
+    ensures { row_of K.MarkKind.meaning result ≡ asked_floor K.MarkKind.kind entries }
 {
     Ok(K::floor(Row::new(entries)?))
 }
 
 // The lift of a site and a stamp.
 pub fn lift_from<K: MarkKind>(site: u8, stamp: u64) -> Result<K::Mark, Refusal>
-    ensures { row_of K.MarkKind.meaning result ≡ askedLift K.MarkKind.kind site stamp }
+    ensures { row_of K.MarkKind.meaning result ≡ asked_lift K.MarkKind.kind site stamp }
 {
     let stamp = Stamp::new(stamp)?;
     let site = Site::new(site)?;

@@ -8,13 +8,13 @@ use Rattle.servers.specs.Versions.{VersionState}
 use Rattle.model.specs.Events.{AsLate, History}
 use Rattle.model.specs.Groups.{GroupState}
 use Rattle.model.specs.GroupStore.{AllTaken, held_at}
-use Rattle.model.specs.Promises.{anyVersion}
+use Rattle.model.specs.Promises.{any_version}
 use Rattle.model.proofs.Invariant.{Shape, Ghost, name_of, part, Had}
 use Rattle.model.proofs.Effects.{part_small}
 use Rattle.model.proofs.GroupEffects.{shape}
-use Rattle.model.proofs.Showing.{as-late-trans, same-time, stands-late}
+use Rattle.model.proofs.Showing.{as_late_trans, same_time, stands_late}
 use Rattle.model.proofs.Histories.{Inv}
-use Rattle.model.proofs.SessionLines.{held-from, held_in}
+use Rattle.model.proofs.SessionLines.{held_from, held_in}
 
 module _ {k : Kind} {sites : ℕ} {h : History} {g : GroupState} {G : Ghost} (v : Inv k sites h g G) (quiet : AllTaken g) where
   abbrev L : Shape
@@ -33,21 +33,21 @@ module _ {k : Kind} {sites : ℕ} {h : History} {g : GroupState} {G : Ghost} (v 
   other : (w : VersionState) (s t key : ℕ) → t < g.sites → In w (held_at g s) → w.key ≡ key →
       In w G.log × ((u : VersionState) × In u (held_at g t) × (u.key ≡ key) × AsLate (name_of u) (name_of w))
   other w s t key l i e =
-      let r = held-from g s w i in
+      let r = held_from g s w i in
       let o = v.core.holds.had w s r.0 r.2 in
       let x = v.core.holds.kept w t l o.0 (had w t l o.0) in
-      (o.0, (x.other, held_in g t (part L w.key) x.other (part_small L w.key) x.there, x.same_key ∙ e, stands-late x))
+      (o.0, (x.other, held_in g t (part L w.key) x.other (part_small L w.key) x.there, x.same_key ∙ e, stands_late x))
 
   pub agree : (s t key : ℕ) → s < g.sites → t < g.sites → (a b : Option VersionState) →
-      IsLatest anyVersion key (held_at g s) a → IsLatest anyVersion key (held_at g t) b → a ≡ b
+      IsLatest any_version key (held_at g s) a → IsLatest any_version key (held_at g t) b → a ≡ b
   agree s t key ls lt None None p q = refl
   agree s t key ls lt None (Some w) p q = let u = (other w t s key ls q.0 q.1.0).1 in absurd (p u.0 u.1 (u.2, refl))
   agree s t key ls lt (Some w) None p q = let u = (other w s t key lt p.0 p.1.0).1 in absurd (q u.0 u.1 (u.2, refl))
   agree s t key ls lt (Some w) (Some z) p q =
       let a = other w s t key lt p.0 p.1.0 in
       let b = other z t s key ls q.0 q.1.0 in
-      let up = as-late-trans (name_of z) (name_of a.1.0) (name_of w) (q.2 a.1.0 a.1.1 (a.1.2, refl)) a.1.3 in
-      let down = as-late-trans (name_of w) (name_of b.1.0) (name_of z) (p.2 b.1.0 b.1.1 (b.1.2, refl)) b.1.3 in
-      let time = same-time (name_of w) (name_of z) down up in
+      let up = as_late_trans (name_of z) (name_of a.1.0) (name_of w) (q.2 a.1.0 a.1.1 (a.1.2, refl)) a.1.3 in
+      let down = as_late_trans (name_of w) (name_of b.1.0) (name_of z) (p.2 b.1.0 b.1.1 (b.1.2, refl)) b.1.3 in
+      let time = same_time (name_of w) (name_of z) down up in
       let keys : w.key ≡ z.key = p.1.0 ∙ sym q.1.0 in
       ap Some (v.core.logs.unique w z a.0 b.0 (λ i. record { key = keys i; stamp = time.0 i; source = time.1 i }))

@@ -6,19 +6,19 @@ use Rattle.servers.specs.Laws.{In}
 use Rattle.servers.specs.Servers.{ServerState}
 use Rattle.servers.specs.Values.{Worth}
 use Rattle.servers.specs.Versions.{VersionState}
-use Rattle.model.specs.Calls.{shownOf}
+use Rattle.model.specs.Calls.{shown_of}
 use Rattle.model.specs.Events.{Put, Shown, Ticket, Told, read_by, nothing, History}
-use Rattle.model.specs.Groups.{GroupState, SeatState, sessionAt, seatAt}
-use Rattle.model.specs.Pasts.{siteOf, readerOf, Past}
+use Rattle.model.specs.Groups.{GroupState, SeatState, session_at, seat_at}
+use Rattle.model.specs.Pasts.{site_of, reader_of, Past}
 use Rattle.model.specs.Promises.{Open, WasPut}
 use Rattle.model.proofs.Invariant.{Ghost, tables, name_of, Core}
-use Rattle.model.proofs.GroupEffects.{shape, withServers}
+use Rattle.model.proofs.GroupEffects.{shape, with_servers}
 use Rattle.model.proofs.Showing.{Best}
 
 -- A server of site s stands where it should, and its capacities hold.
 pub record ServerFrame (sites s : ℕ) (x : ServerState) : Type 0 where
-  pub site-is : x.site ≡ s
-  pub sites-is : x.sites ≡ sites
+  pub site_is : x.site ≡ s
+  pub sites_is : x.sites ≡ sites
   pub versions : length x.held ≤ 32
   pub entries : (site : ℕ) → length (x.waiting site) ≤ 16
   pub reading : x.reading < 2 ^ 47
@@ -29,22 +29,22 @@ pub record Frame (g : GroupState) : Type 0 where
   pub servers : (s n : ℕ) → ServerFrame g.sites s (g.server s n)
   pub sessions : length g.sessions ≤ 8
   pub seats : length g.seats ≡ 4
-  pub serials : g.nextSerial < 2 ^ 32
+  pub serials : g.next_serial < 2 ^ 32
 
 -- What the history tells of sessions and snapshots is as the group has it.
 pub record HistInv (h : History) (g : GroupState) : Type 0 where
-  pub sites-known : (i : ℕ) → i < length g.sessions → siteOf h i ≡ (sessionAt g i).site
-  pub readers-known : (a : ℕ) (y : SeatState) → seatAt g a ≡ Some y → readerOf h y.serial ≡ y.session
-  pub open-known : (t : Ticket) → Open t h → (y : SeatState) × (seatAt g t.seat ≡ Some y) × (y.serial ≡ t.serial)
+  pub sites_known : (i : ℕ) → i < length g.sessions → site_of h i ≡ (session_at g i).site
+  pub readers_known : (a : ℕ) (y : SeatState) → seat_at g a ≡ Some y → reader_of h y.serial ≡ y.session
+  pub open_known : (t : Ticket) → Open t h → (y : SeatState) × (seat_at g t.seat ≡ Some y) × (y.serial ≡ t.serial)
 
-abbrev pub shownOption : Option VersionState → Option Shown
-shownOption None = None
-shownOption (Some v) = Some (shownOf v)
+abbrev pub shown_option : Option VersionState → Option Shown
+shown_option None = None
+shown_option (Some v) = Some (shown_of v)
 
 -- A snapshot's answer is the latest version that its cut covers.
 pub record ReadRight (k : Kind) (G : Ghost) (next : ℕ) (t : Ticket) (key : ℕ) (o : Option Shown) : Type 0 where
   pub found : Option VersionState
-  pub is : o ≡ shownOption found
+  pub is : o ≡ shown_option found
   pub issued : t.serial < next
   pub best : Best k G.log (G.cut_of t.serial) key found
 
@@ -53,7 +53,7 @@ pub record Inv (k : Kind) (sites : ℕ) (h : History) (g : GroupState) (G : Ghos
   pub layout : g.sites ≡ sites
   pub core : Core k (shape g frame.four frame.some) (Past h) (tables k g) G
   pub hist : HistInv h g
-  pub reads : (t : Ticket) (key : ℕ) (o : Option Shown) → In (read_by t key o) h → ReadRight k G g.nextSerial t key o
+  pub reads : (t : Ticket) (key : ℕ) (o : Option Shown) → In (read_by t key o) h → ReadRight k G g.next_serial t key o
   -- the log is what was put
   pub written : (v : VersionState) → In v G.log → WasPut h (name_of v) v.value
   pub logged : (p : Put) (x : Worth) → WasPut h p x → (v : VersionState) × In v G.log × (name_of v ≡ p)
@@ -61,54 +61,54 @@ pub record Inv (k : Kind) (sites : ℕ) (h : History) (g : GroupState) (G : Ghos
 -- What the proof remembers has only grown, and no snapshot's answers have changed.
 pub record Grows (k : Kind) (next next' : ℕ) (G G' : Ghost) : Type 0 where
   pub more : next ≤ next'
-  pub same-cut : (q : ℕ) → q < next → G'.cut_of q ≡ G.cut_of q
+  pub same_cut : (q : ℕ) → q < next → G'.cut_of q ≡ G.cut_of q
   pub best : (q : ℕ) → q < next → (key : ℕ) (o : Option VersionState) → Best k G.log (G.cut_of q) key o → Best k G'.log (G.cut_of q) key o
 
 pub grows_same : (k : Kind) (next : ℕ) (G : Ghost) → Grows k next next G G
-grows_same k next G = record { more = le_refl next; same-cut = λ q l. refl; best = λ q l key o b. b }
+grows_same k next G = record { more = le_refl next; same_cut = λ q l. refl; best = λ q l key o b. b }
 
-pub grows-on : {k : Kind} {a b c : ℕ} {G H I : Ghost} → Grows k a b G H → Grows k b c H I → Grows k a c G I
-grows-on {k} {a} {b} {c} {G} {H} {I} p q = record {
+pub grows_on : {k : Kind} {a b c : ℕ} {G H I : Ghost} → Grows k a b G H → Grows k b c H I → Grows k a c G I
+grows_on {k} {a} {b} {c} {G} {H} {I} p q = record {
   more = le_trans p.more q.more;
-  same-cut = λ x l. q.same-cut x (le_trans l p.more) ∙ p.same-cut x l;
-  best = λ x l key o h. subst (λ (m : Four). Best k I.log m key o) (p.same-cut x l) (q.best x (le_trans l p.more) key o (subst (λ (m : Four). Best k H.log m key o) (sym (p.same-cut x l)) (p.best x l key o h)));
+  same_cut = λ x l. q.same_cut x (le_trans l p.more) ∙ p.same_cut x l;
+  best = λ x l key o h. subst (λ (m : Four). Best k I.log m key o) (p.same_cut x l) (q.best x (le_trans l p.more) key o (subst (λ (m : Four). Best k H.log m key o) (sym (p.same_cut x l)) (p.best x l key o h)));
 }
 
-pub read-grows : {k : Kind} {next next' : ℕ} {G G' : Ghost} → Grows k next next' G G' → (t : Ticket) (key : ℕ) (o : Option Shown) → ReadRight k G next t key o → ReadRight k G' next' t key o
-read-grows {k} {next} {next'} {G} {G'} up t key o r = record {
+pub read_grows : {k : Kind} {next next' : ℕ} {G G' : Ghost} → Grows k next next' G G' → (t : Ticket) (key : ℕ) (o : Option Shown) → ReadRight k G next t key o → ReadRight k G' next' t key o
+read_grows {k} {next} {next'} {G} {G'} up t key o r = record {
   found = r.found;
   is = r.is;
   issued = le_trans r.issued up.more;
-  best = subst (λ (m : Four). Best k G'.log m key r.found) (sym (up.same-cut t.serial r.issued)) (up.best t.serial r.issued key r.found r.best);
+  best = subst (λ (m : Four). Best k G'.log m key r.found) (sym (up.same_cut t.serial r.issued)) (up.best t.serial r.issued key r.found r.best);
 }
 
 -- The invariant is kept by a call that tells t and leaves g'.
 pub record Kept (k : Kind) (sites : ℕ) (h : History) (g : GroupState) (G : Ghost) (t : Told) (g' : GroupState) : Type 0 where
   pub ghost : Ghost
   pub inv : Inv k sites (t ∷ h) g' ghost
-  pub grows : Grows k g.nextSerial g'.nextSerial G ghost
+  pub grows : Grows k g.next_serial g'.next_serial G ghost
 
-not-nothing : (t : Ticket) (key : ℕ) (o : Option Shown) → read_by t key o ≡ nothing → ⊥
-not-nothing t key o e = let z : ◌≡◌ {A = ℕ} 0 1 = cc in omega arith
+not_nothing : (t : Ticket) (key : ℕ) (o : Option Shown) → read_by t key o ≡ nothing → ⊥
+not_nothing t key o e = let z : ◌≡◌ {A = ℕ} 0 1 = cc in omega arith
 
 module _ {k : Kind} {sites : ℕ} {h : History} {g : GroupState} {G : Ghost} (v : Inv k sites h g G) where
   -- a call that tells nothing, and changes servers only
-  pub servers-kept : (server : ℕ → ℕ → ServerState) → ((s n : ℕ) → ServerFrame g.sites s (server s n)) →
-      Core k (shape g v.frame.four v.frame.some) (Past h) (tables k (withServers g server)) G → Kept k sites h g G nothing (withServers g server)
-  servers-kept server frames core = record {
+  pub servers_kept : (server : ℕ → ℕ → ServerState) → ((s n : ℕ) → ServerFrame g.sites s (server s n)) →
+      Core k (shape g v.frame.four v.frame.some) (Past h) (tables k (with_servers g server)) G → Kept k sites h g G nothing (with_servers g server)
+  servers_kept server frames core = record {
     ghost = G;
     inv = record {
       frame = record { four = v.frame.four; some = v.frame.some; servers = frames; sessions = v.frame.sessions; seats = v.frame.seats; serials = v.frame.serials };
       layout = v.layout;
       core = core;
-      hist = record { sites-known = v.hist.sites-known; readers-known = v.hist.readers-known; open-known = v.hist.open-known };
-      reads = λ t key o i. ⊎_elim (λ e. absurd (not-nothing t key o e)) (v.reads t key o) i;
+      hist = record { sites_known = v.hist.sites_known; readers_known = v.hist.readers_known; open_known = v.hist.open_known };
+      reads = λ t key o i. ⊎_elim (λ e. absurd (not_nothing t key o e)) (v.reads t key o) i;
       written = v.written;
       logged = v.logged;
     };
-    grows = grows_same k g.nextSerial G;
+    grows = grows_same k g.next_serial G;
   }
 
   -- a refused call
-  pub refused-kept : Kept k sites h g G nothing g
-  refused-kept = servers-kept g.server v.frame.servers v.core
+  pub refused_kept : Kept k sites h g G nothing g
+  refused_kept = servers_kept g.server v.frame.servers v.core

@@ -3,21 +3,21 @@
 use Rattle.std.proofs.Common.{◌≡◌, ℕ, ◌%◌, ◌^◌, ◌<◌, ◌≤◌, ◌⊎◌, List, [], ◌∷◌, length, Some, Option}
 use Rattle.stamps.specs.Rows.{Four, Stamps, Covers, at, greatest}
 use Rattle.marks.specs.Kinds.{Kind}
-use Rattle.servers.specs.Entries.{Sent, update, stampOf}
+use Rattle.servers.specs.Entries.{Sent, update, stamp_of}
 use Rattle.servers.specs.Laws.{In}
-use Rattle.servers.specs.Versions.{VersionState, fullMark}
-use Rattle.model.specs.Calls.{safeMark}
+use Rattle.servers.specs.Versions.{VersionState, full_mark}
+use Rattle.model.specs.Calls.{safe_mark}
 use Rattle.model.specs.Events.{Put, Later}
-use Rattle.model.specs.Groups.{GroupState, SessionState, SeatState, sessionAt, seatAt}
-use Rattle.model.specs.Pasts.{Pasts, ofSession, ofPut}
+use Rattle.model.specs.Groups.{GroupState, SessionState, SeatState, session_at, seat_at}
+use Rattle.model.specs.Pasts.{Pasts, of_session, of_put}
 use Rattle.model.proofs.Rows.{Mark}
 
 -- How many sites and partitions there are.
 pub record Shape : Type 0 where
   pub sites : ℕ
   pub parts : ℕ
-  pub sites-four : sites ≤ 4
-  pub parts-some : 1 ≤ parts
+  pub sites_four : sites ≤ 4
+  pub parts_some : 1 ≤ parts
 
 abbrev pub part : Shape → ℕ → ℕ
 part L key = key % L.parts
@@ -27,7 +27,7 @@ part L key = key % L.parts
 pub record Ghost : Type 0 where
   pub log : List VersionState
   pub cut_of : ℕ → Four
-  pub snapSite : ℕ → ℕ
+  pub snap_site : ℕ → ℕ
 
 -- The group as a table for each thing: by site and partition, by session number, by seat.
 pub record Tables : Type 0 where
@@ -52,10 +52,10 @@ tables k g = record {
   stable = λ s n. (g.server s n).marks.stable;
   waits = λ s n. (g.server s n).waiting;
   opened = length g.sessions;
-  session = sessionAt g;
-  seat = seatAt g;
-  next = g.nextSerial;
-  safe = safeMark k g;
+  session = session_at g;
+  seat = seat_at g;
+  next = g.next_serial;
+  safe = safe_mark k g;
 }
 
 abbrev pub name_of : VersionState → Put
@@ -68,7 +68,7 @@ last received s n = at (received s n) s
 -- Entries in strictly rising stamps, all above low, the last of them high; if there are none, low is high.
 abbrev pub Chain : ℕ → List Sent → ℕ → Type 0
 Chain low [] high = low ≡ high
-Chain low (e ∷ es) high = (low < stampOf e) × Chain (stampOf e) es high
+Chain low (e ∷ es) high = (low < stamp_of e) × Chain (stamp_of e) es high
 
 -- Site s has got v from its source, or made it itself.
 abbrev pub Had : Shape → (ℕ → ℕ → Four) → ℕ → VersionState → Type 0
@@ -99,7 +99,7 @@ pub record StandsIn (k : Kind) (vs : List VersionState) (safe : Four) (v : Versi
   pub other : VersionState
   pub there : In other vs
   pub same_key : other.key ≡ v.key
-  pub how : (other ≡ v) ⊎ (Later (name_of other) (name_of v) × Covers safe (fullMark k other))
+  pub how : (other ≡ v) ⊎ (Later (name_of other) (name_of v) × Covers safe (full_mark k other))
 
 -- What is held was had, and what was had is held or stood in for.
 pub record HeldInv (k : Kind) (L : Shape) (received : ℕ → ℕ → Four) (held : ℕ → ℕ → List VersionState) (safe : ℕ → Four) (log : List VersionState) : Type 0 where
@@ -108,41 +108,41 @@ pub record HeldInv (k : Kind) (L : Shape) (received : ℕ → ℕ → Four) (hel
 
 -- The marks of the servers: marks of the kind, and below what was received.
 pub record ServerMarks (k : Kind) (L : Shape) (received reported stable : ℕ → ℕ → Four) : Type 0 where
-  pub received-stamps : (s n : ℕ) → Stamps (received s n)
-  pub reported-mark : (s n : ℕ) → Mark k (reported s n)
-  pub reported-below : (s n : ℕ) → Covers (received s n) (reported s n)
-  pub stable-mark : (s n : ℕ) → Mark k (stable s n)
-  pub stable-below : (s n : ℕ) → Below L received s (stable s n)
+  pub received_stamps : (s n : ℕ) → Stamps (received s n)
+  pub reported_mark : (s n : ℕ) → Mark k (reported s n)
+  pub reported_below : (s n : ℕ) → Covers (received s n) (reported s n)
+  pub stable_mark : (s n : ℕ) → Mark k (stable s n)
+  pub stable_below : (s n : ℕ) → Below L received s (stable s n)
 
 -- A session
 pub record SessionInv (k : Kind) (L : Shape) (received : ℕ → ℕ → Four) (x : SessionState) : Type 0 where
   pub inside : x.site < L.sites
-  pub depends-mark : Mark k x.depends
-  pub knows-mark : Mark k x.knows
-  pub knows-below : Below L received x.site x.knows
+  pub depends_mark : Mark k x.depends
+  pub knows_mark : Mark k x.knows
+  pub knows_below : Below L received x.site x.knows
 
 -- An open snapshot
-pub record SeatInv (opened : ℕ) (session : ℕ → SessionState) (next : ℕ) (cut_of : ℕ → Four) (snapSite : ℕ → ℕ) (y : SeatState) : Type 0 where
+pub record SeatInv (opened : ℕ) (session : ℕ → SessionState) (next : ℕ) (cut_of : ℕ → Four) (snap_site : ℕ → ℕ) (y : SeatState) : Type 0 where
   pub known : y.session < opened
   pub covered : Covers (session y.session).knows y.cut
   pub issued : y.serial < next
-  pub its-cut : y.cut ≡ cut_of y.serial
-  pub its-site : (session y.session).site ≡ snapSite y.serial
+  pub its_cut : y.cut ≡ cut_of y.serial
+  pub its_site : (session y.session).site ≡ snap_site y.serial
 
 -- Every snapshot ever opened, closed since or not
-pub record CutInv (k : Kind) (L : Shape) (received : ℕ → ℕ → Four) (next : ℕ) (cut_of : ℕ → Four) (snapSite : ℕ → ℕ) : Type 0 where
-  pub cut-mark : (q : ℕ) → q < next → Mark k (cut_of q)
-  pub cut_below : (q : ℕ) → q < next → Below L received (snapSite q) (cut_of q)
-  pub cut-site : (q : ℕ) → q < next → snapSite q < L.sites
+pub record CutInv (k : Kind) (L : Shape) (received : ℕ → ℕ → Four) (next : ℕ) (cut_of : ℕ → Four) (snap_site : ℕ → ℕ) : Type 0 where
+  pub cut_mark : (q : ℕ) → q < next → Mark k (cut_of q)
+  pub cut_below : (q : ℕ) → q < next → Below L received (snap_site q) (cut_of q)
+  pub cut_site : (q : ℕ) → q < next → snap_site q < L.sites
 
 -- Put p was made; `mark` covers its full mark; site s had it, and it is its own or `clear` covers its full mark.
 pub record Reached (k : Kind) (L : Shape) (received : ℕ → ℕ → Four) (log : List VersionState) (s : ℕ) (mark clear : Four) (p : Put) : Type 0 where
   pub version : VersionState
   pub logged : In version log
   pub named : name_of version ≡ p
-  pub covered : Covers mark (fullMark k version)
+  pub covered : Covers mark (full_mark k version)
   pub here : Had L received s version
-  pub seen : (version.source ≡ s) ⊎ Covers clear (fullMark k version)
+  pub seen : (version.source ≡ s) ⊎ Covers clear (full_mark k version)
 
 -- Put p stands in the past of put u.
 pub record Before (k : Kind) (L : Shape) (received stable : ℕ → ℕ → Four) (log : List VersionState) (u p : Put) : Type 0 where
@@ -152,9 +152,9 @@ pub record Before (k : Kind) (L : Shape) (received stable : ℕ → ℕ → Four
   pub reached : Reached k L received log writer.source writer.mark (stable writer.source (part L writer.key)) p
 
 pub record PastInv (k : Kind) (L : Shape) (P : Pasts) (received stable : ℕ → ℕ → Four) (opened : ℕ) (session : ℕ → SessionState) (log : List VersionState) : Type 0 where
-  pub open-only : (i : ℕ) (p : Put) → P (ofSession i) p → i < opened
-  pub of-session : (i : ℕ) (p : Put) → P (ofSession i) p → Reached k L received log (session i).site (session i).depends (session i).knows p
-  pub of-put : (u p : Put) → P (ofPut u) p → Before k L received stable log u p
+  pub open_only : (i : ℕ) (p : Put) → P (of_session i) p → i < opened
+  pub of_session_lem : (i : ℕ) (p : Put) → P (of_session i) p → Reached k L received log (session i).site (session i).depends (session i).knows p
+  pub of_put_lem : (u p : Put) → P (of_put u) p → Before k L received stable log u p
 
 -- All of the above, for pasts P.
 pub record Core (k : Kind) (L : Shape) (P : Pasts) (T : Tables) (G : Ghost) : Type 0 where
@@ -163,6 +163,6 @@ pub record Core (k : Kind) (L : Shape) (P : Pasts) (T : Tables) (G : Ghost) : Ty
   pub holds : HeldInv k L T.received T.held T.safe G.log
   pub marks : ServerMarks k L T.received T.reported T.stable
   pub sessions : (i : ℕ) → i < T.opened → SessionInv k L T.received (T.session i)
-  pub seats : (a : ℕ) (y : SeatState) → T.seat a ≡ Some y → SeatInv T.opened T.session T.next G.cut_of G.snapSite y
-  pub cuts : CutInv k L T.received T.next G.cut_of G.snapSite
+  pub seats : (a : ℕ) (y : SeatState) → T.seat a ≡ Some y → SeatInv T.opened T.session T.next G.cut_of G.snap_site y
+  pub cuts : CutInv k L T.received T.next G.cut_of G.snap_site
   pub pasts : PastInv k L P T.received T.stable T.opened T.session G.log

@@ -5,180 +5,180 @@ use Rattle.std.proofs.lemmas.Bool.{and_parts, and_cases, cond_both, eqb-false, l
 use Rattle.stamps.specs.declared.refusal.Refusal.{Refusal}
 use Rattle.stamps.specs.declared.refusal.Refusal.TheVariants.{NotInLayout, Unlawful, ReadingBehind, TableFull, OutboxFull}
 use Rattle.stamps.specs.Clocks.{Allowed, LawfulRule}
-use Rattle.stamps.specs.Rows.{Four, Covers, Stamps, at, withEntry}
-use Rattle.marks.specs.CommonFloors.{commonFloor}
+use Rattle.stamps.specs.Rows.{Four, Covers, Stamps, at, with_entry}
+use Rattle.marks.specs.CommonFloors.{common_floor}
 use Rattle.marks.specs.Kinds.{Kind, LawfulKind}
-use Rattle.servers.specs.Entries.{Sent, update, heartbeat, stampOf}
+use Rattle.servers.specs.Entries.{Sent, update, heartbeat, stamp_of}
 use Rattle.servers.specs.Laws.{In}
-use Rattle.servers.specs.Others.{isOther}
-use Rattle.servers.specs.Outboxes.{Queues, first, has16, issued, nextFor, outboxFull, takenBy}
-use Rattle.servers.specs.Servers.{Rule, MarksState, ServerState, told, toldReading, beaten, beatenAt, last_of, issuing, keeping, receiving as receivingServer, taking, takingOther, handing, raised, reporting, tidiedUp}
-use Rattle.servers.specs.Tables.{tableFull}
+use Rattle.servers.specs.Others.{is_other}
+use Rattle.servers.specs.Outboxes.{Queues, first, has16, issued, next_for, outbox_full, taken_by}
+use Rattle.servers.specs.Servers.{Rule, MarksState, ServerState, told, told_reading, beaten, beaten_at, last_of, issuing, keeping, receiving as receiving_server, taking, taking_other, handing, raised, reporting, tidied_up}
+use Rattle.servers.specs.Tables.{table_full}
 use Rattle.servers.specs.Versions.{VersionState}
-use Rattle.servers.proofs.RowEntries.{by-site}
-use Rattle.servers.proofs.Tidied.{tidied-law}
-use Rattle.model.specs.Calls.{hasServer, serverLeft, onServer, changeServer, delivered, tookLeft, safeMark, counted}
+use Rattle.servers.proofs.RowEntries.{by_site}
+use Rattle.servers.proofs.Tidied.{tidied_law}
+use Rattle.model.specs.Calls.{has_server, server_left, on_server, change_server, delivered, took_left, safe_mark, counted}
 use Rattle.model.specs.Events.{Done, nothing, History}
-use Rattle.model.specs.Groups.{GroupState, withServer, reportedAt}
+use Rattle.model.specs.Groups.{GroupState, with_server, reported_at}
 use Rattle.model.specs.Pasts.{Past}
-use Rattle.model.proofs.Rows.{Mark, covers_self, covers-trans, stamps-at}
-use Rattle.model.proofs.Lists.{set2, set2-cases, set2-field, set2-other, set2-same}
-use Rattle.model.proofs.Floors.{common-mark, common-below, in-first, first-in}
+use Rattle.model.proofs.Rows.{Mark, covers_self, covers_trans, stamps_at}
+use Rattle.model.proofs.Lists.{set2, set2_cases, set2_field, set2_other, set2_same}
+use Rattle.model.proofs.Floors.{common_mark, common_below, in_first, first_in}
 use Rattle.model.proofs.Invariant.{Shape, Ghost, Tables, tables, last, Below, Core}
-use Rattle.model.proofs.Effects.{safer, withEntries}
+use Rattle.model.proofs.Effects.{safer, with_entries}
 use Rattle.model.proofs.Issuing.{receiving, sending}
-use Rattle.model.proofs.Putting.{beaten as beaten-too}
-use Rattle.model.proofs.Taking.{handedOver, taken-beat, taken-update}
-use Rattle.model.proofs.Views.{tables-server}
-use Rattle.model.proofs.GroupEffects.{shape, safe-servers, place-server, raise-server, report-server, same-server, tidy-server}
-use Rattle.model.proofs.Histories.{ServerFrame, Inv, Kept, servers-kept, refused-kept}
+use Rattle.model.proofs.Putting.{beaten as beaten_too}
+use Rattle.model.proofs.Taking.{handed_over, taken_beat, taken_update}
+use Rattle.model.proofs.Views.{tables_server}
+use Rattle.model.proofs.GroupEffects.{shape, safe_servers, place_server, raise_server, report_server, same_server, tidy_server}
+use Rattle.model.proofs.Histories.{ServerFrame, Inv, Kept, servers_kept, refused_kept}
 
 -- one entry more for every other site, where none of them has 16 to take
-pub issued-few : (own sites : ℕ) (w : Queues) (e : Sent) → sites ≤ 4 → outboxFull own sites w ≡ false → ((site : ℕ) → length (w site) ≤ 16) → (site : ℕ) → length (issued own sites w e site) ≤ 16
-issued-few own sites w e few room old site =
-    cond_both (isOther own sites site) (w site ++ (e ∷ [])) (w site) (λ q. length q ≤ 16)
+pub issued_few : (own sites : ℕ) (w : Queues) (e : Sent) → sites ≤ 4 → outbox_full own sites w ≡ false → ((site : ℕ) → length (w site) ≤ 16) → (site : ℕ) → length (issued own sites w e site) ≤ 16
+issued_few own sites w e few room old site =
+    cond_both (is_other own sites site) (w site ++ (e ∷ [])) (w site) (λ q. length q ≤ 16)
     (λ other. let l = leb-false 16 (length (w site)) (free site other) in omega (arith, length-append (w site) (e ∷ [])))
     (λ _. old site)
   where
     Free : ℕ → Type 0
-    Free i = isOther own sites i ≡ true → leb 16 (length (w i)) ≡ false
+    Free i = is_other own sites i ≡ true → leb 16 (length (w i)) ≡ false
 
     one : (i : ℕ) → has16 own sites w i ≡ false → Free i
-    one i no-16 other = ⊎_elim (λ f. absurd (both_ways (isOther own sites i) f other)) (λ f. f) (and_cases (isOther own sites i) (leb 16 (length (w i))) no-16)
+    one i no_16 other = ⊎_elim (λ f. absurd (both_ways (is_other own sites i) f other)) (λ f. f) (and_cases (is_other own sites i) (leb 16 (length (w i))) no_16)
 
     free : (i : ℕ) → Free i
     free =
         let a = or_parts (has16 own sites w 0) _ room in
         let b = or_parts (has16 own sites w 1) _ a.1 in
         let c = or_parts (has16 own sites w 2) (has16 own sites w 3) b.1 in
-        by-site Free (one 0 a.0) (one 1 b.0) (one 2 c.0) (one 3 c.1)
+        by_site Free (one 0 a.0) (one 1 b.0) (one 2 c.0) (one 3 c.1)
         (λ m other. absurd (let l = ltb-true (suc (suc (suc (suc m)))) sites (and_parts (ltb (suc (suc (suc (suc m)))) sites) _ other).0 in omega arith))
 
-pub taken-few : (w : Queues) (taker : ℕ) → ((site : ℕ) → length (w site) ≤ 16) → (site : ℕ) → length (takenBy w taker site) ≤ 16
-taken-few w taker old site = cond_both (eqb site taker) (drop 1 (w site)) (w site) (λ q. length q ≤ 16) (λ _. let l = old site in omega (arith, length-drop 1 (w site))) (λ _. old site)
+pub taken_few : (w : Queues) (taker : ℕ) → ((site : ℕ) → length (w site) ≤ 16) → (site : ℕ) → length (taken_by w taker site) ≤ 16
+taken_few w taker old site = cond_both (eqb site taker) (drop 1 (w site)) (w site) (λ q. length q ≤ 16) (λ _. let l = old site in omega (arith, length-drop 1 (w site))) (λ _. old site)
 
-pub in-layout : (g : GroupState) (s n : ℕ) → hasServer g s n ≡ true → (s < g.sites) × (n < g.partitions)
-in-layout g s n e = let p = and_parts (ltb s g.sites) (ltb n g.partitions) e in (ltb-true _ _ p.0, ltb-true _ _ p.1)
+pub in_layout : (g : GroupState) (s n : ℕ) → has_server g s n ≡ true → (s < g.sites) × (n < g.partitions)
+in_layout g s n e = let p = and_parts (ltb s g.sites) (ltb n g.partitions) e in (ltb-true _ _ p.0, ltb-true _ _ p.1)
 
 module _ {k : Kind} (law : LawfulKind k) {sites : ℕ} {h : History} {g : GroupState} {G : Ghost} (v : Inv k sites h g G) where
   abbrev L : Shape
   L = shape g v.frame.four v.frame.some
 
   -- frames with one server replaced
-  pub server-frames : (s n : ℕ) (x : ServerState) → ServerFrame g.sites s x → (s' n' : ℕ) → ServerFrame g.sites s' (set2 g.server s n x s' n')
-  server-frames s n x f s' n' =
-      set2-cases g.server s n x s' n' (ServerFrame g.sites s') (λ a _. subst (λ (z : ℕ). ServerFrame g.sites z x) (sym a) f) (λ _. v.frame.servers s' n')
+  pub server_frames : (s n : ℕ) (x : ServerState) → ServerFrame g.sites s x → (s' n' : ℕ) → ServerFrame g.sites s' (set2 g.server s n x s' n')
+  server_frames s n x f s' n' =
+      set2_cases g.server s n x s' n' (ServerFrame g.sites s') (λ a _. subst (λ (z : ℕ). ServerFrame g.sites z x) (sym a) f) (λ _. v.frame.servers s' n')
 
-  one_kept : (s n : ℕ) (x : ServerState) → ServerFrame g.sites s x → Core k L (Past h) (tables k (withServer g s n x)) G → Kept k sites h g G nothing (withServer g s n x)
-  one_kept s n x f core = servers-kept v (set2 g.server s n x) (server-frames s n x f) core
+  one_kept : (s n : ℕ) (x : ServerState) → ServerFrame g.sites s x → Core k L (Past h) (tables k (with_server g s n x)) G → Kept k sites h g G nothing (with_server g s n x)
+  one_kept s n x f core = servers_kept v (set2 g.server s n x) (server_frames s n x f) core
 
   -- a call of one server, by what it is if the layout has the server
-  on-kept : {A : Type 0} (s n : ℕ) (act : ServerState → Result A Refusal × ServerState) →
-      (s < g.sites → n < g.partitions → Kept k sites h g G nothing (serverLeft g s n (act (g.server s n))).1) → Kept k sites h g G nothing (onServer g s n act).1
-  on-kept {A} s n act inside =
-      cond_both {A = Result A Refusal × GroupState} (hasServer g s n) (serverLeft g s n (act (g.server s n))) (Err NotInLayout, g) (λ r. Kept k sites h g G nothing r.1)
-      (λ e. let l = in-layout g s n e in inside l.0 l.1) (λ _. refused-kept v)
+  on_kept : {A : Type 0} (s n : ℕ) (act : ServerState → Result A Refusal × ServerState) →
+      (s < g.sites → n < g.partitions → Kept k sites h g G nothing (server_left g s n (act (g.server s n))).1) → Kept k sites h g G nothing (on_server g s n act).1
+  on_kept {A} s n act inside =
+      cond_both {A = Result A Refusal × GroupState} (has_server g s n) (server_left g s n (act (g.server s n))) (Err NotInLayout, g) (λ r. Kept k sites h g G nothing r.1)
+      (λ e. let l = in_layout g s n e in inside l.0 l.1) (λ _. refused_kept v)
 
   -- the frame of a server whose marks alone have changed
-  marks-frame : (s n : ℕ) (marks : MarksState) → ServerFrame g.sites s (record { site = (g.server s n).site; sites = (g.server s n).sites; reading = (g.server s n).reading; marks = marks; held = (g.server s n).held; waiting = (g.server s n).waiting })
-  marks-frame s n marks =
+  marks_frame : (s n : ℕ) (marks : MarksState) → ServerFrame g.sites s (record { site = (g.server s n).site; sites = (g.server s n).sites; reading = (g.server s n).reading; marks = marks; held = (g.server s n).held; waiting = (g.server s n).waiting })
+  marks_frame s n marks =
       let f = v.frame.servers s n in
-      record { site-is = f.site-is; sites-is = f.sites-is; versions = f.versions; entries = f.entries; reading = f.reading }
+      record { site_is = f.site_is; sites_is = f.sites_is; versions = f.versions; entries = f.entries; reading = f.reading }
 
-  pub keeps-tell : (s n time : ℕ) → Kept k sites h g G nothing (onServer g s n (λ x. told x time)).1
-  keeps-tell s n time = on-kept s n (λ x. told x time) (λ _ _.
-      cond_both {A = Result ℕ Refusal} (ltb time (2 ^ 47)) (Ok time) (Err Unlawful) (λ c. Kept k sites h g G nothing (serverLeft g s n (toldReading (g.server s n) c)).1)
-      (λ small. cond_both {A = Result Done Refusal × ServerState} (ltb time (g.server s n).reading) (Err ReadingBehind, g.server s n) (Ok tt, new) (λ r. Kept k sites h g G nothing (serverLeft g s n r).1)
-      (λ _. refused-kept v)
-      (λ _. one_kept s n new (frame (ltb-true _ _ small)) (same-server law g v.frame.four v.frame.some v.core s n new refl refl refl)))
-      (λ _. refused-kept v))
+  pub keeps_tell : (s n time : ℕ) → Kept k sites h g G nothing (on_server g s n (λ x. told x time)).1
+  keeps_tell s n time = on_kept s n (λ x. told x time) (λ _ _.
+      cond_both {A = Result ℕ Refusal} (ltb time (2 ^ 47)) (Ok time) (Err Unlawful) (λ c. Kept k sites h g G nothing (server_left g s n (told_reading (g.server s n) c)).1)
+      (λ small. cond_both {A = Result Done Refusal × ServerState} (ltb time (g.server s n).reading) (Err ReadingBehind, g.server s n) (Ok tt, new) (λ r. Kept k sites h g G nothing (server_left g s n r).1)
+      (λ _. refused_kept v)
+      (λ _. one_kept s n new (frame (ltb-true _ _ small)) (same_server law g v.frame.four v.frame.some v.core s n new refl refl refl)))
+      (λ _. refused_kept v))
     where
       new : ServerState
       new = record { site = (g.server s n).site; sites = (g.server s n).sites; reading = time; marks = (g.server s n).marks; held = (g.server s n).held; waiting = (g.server s n).waiting }
 
       frame : time < 2 ^ 47 → ServerFrame g.sites s new
-      frame small = let f = v.frame.servers s n in record { site-is = f.site-is; sites-is = f.sites-is; versions = f.versions; entries = f.entries; reading = small }
+      frame small = let f = v.frame.servers s n in record { site_is = f.site_is; sites_is = f.sites_is; versions = f.versions; entries = f.entries; reading = small }
 
-  pub keeps-report : (s n : ℕ) → Kept k sites h g G nothing (changeServer g s n (reporting k)).1
-  keeps-report s n = on-kept {A = Done} s n (λ x. (Ok tt, reporting k x))
-      (λ _ _. one_kept s n (reporting k (g.server s n)) (marks-frame s n _) (report-server law g v.frame.four v.frame.some v.core s n))
+  pub keeps_report : (s n : ℕ) → Kept k sites h g G nothing (change_server g s n (reporting k)).1
+  keeps_report s n = on_kept {A = Done} s n (λ x. (Ok tt, reporting k x))
+      (λ _ _. one_kept s n (reporting k (g.server s n)) (marks_frame s n _) (report_server law g v.frame.four v.frame.some v.core s n))
 
-  pub keeps-stabilise : (s n : ℕ) → Kept k sites h g G nothing (changeServer g s n (λ x. raised k x (commonFloor k (reportedAt g s)))).1
-  keeps-stabilise s n = on-kept {A = Done} s n (λ x. (Ok tt, raised k x m))
-      (λ _ _. one_kept s n (raised k (g.server s n) m) (marks-frame s n _) (raise-server law g v.frame.four v.frame.some v.core s n m (common-mark law rows stamps) low))
+  pub keeps_stabilise : (s n : ℕ) → Kept k sites h g G nothing (change_server g s n (λ x. raised k x (common_floor k (reported_at g s)))).1
+  keeps_stabilise s n = on_kept {A = Done} s n (λ x. (Ok tt, raised k x m))
+      (λ _ _. one_kept s n (raised k (g.server s n) m) (marks_frame s n _) (raise_server law g v.frame.four v.frame.some v.core s n m (common_mark law rows stamps) low))
     where
       rows : List Four
-      rows = reportedAt g s
+      rows = reported_at g s
 
       m : Four
-      m = commonFloor k (reportedAt g s)
+      m = common_floor k (reported_at g s)
 
       stamps : (x : Four) → In x rows → Stamps x
-      stamps x i = let r = first-in (λ j. (g.server s j).marks.reported) g.partitions x i in subst Stamps (sym r.2) (v.core.marks.reported-mark s r.0).0
+      stamps x i = let r = first_in (λ j. (g.server s j).marks.reported) g.partitions x i in subst Stamps (sym r.2) (v.core.marks.reported_mark s r.0).0
 
       low : Below L (λ i j. (g.server i j).marks.received) s m
-      low n' l = covers-trans (v.core.marks.reported-below s n') (common-below law rows stamps _ (in-first (λ j. (g.server s j).marks.reported) g.partitions n' l))
+      low n' l = covers_trans (v.core.marks.reported_below s n') (common_below law rows stamps _ (in_first (λ j. (g.server s j).marks.reported) g.partitions n' l))
 
-  pub keeps-tidy : (s n : ℕ) → Kept k sites h g G nothing (onServer g s n (λ x. counted (tidiedUp k x (safeMark k g s)))).1
-  keeps-tidy s n = on-kept {A = ℕ} s n (λ x. counted (tidiedUp k x (safeMark k g s)))
-      (λ _ _. one_kept s n new frame (tidy-server law g v.frame.four v.frame.some v.core s n))
+  pub keeps_tidy : (s n : ℕ) → Kept k sites h g G nothing (on_server g s n (λ x. counted (tidied_up k x (safe_mark k g s)))).1
+  keeps_tidy s n = on_kept {A = ℕ} s n (λ x. counted (tidied_up k x (safe_mark k g s)))
+      (λ _ _. one_kept s n new frame (tidy_server law g v.frame.four v.frame.some v.core s n))
     where
       new : ServerState
-      new = (tidiedUp k (g.server s n) (safeMark k g s)).1
+      new = (tidied_up k (g.server s n) (safe_mark k g s)).1
 
       frame : ServerFrame g.sites s new
       frame =
           let f = v.frame.servers s n in
-          let c = (tidied-law k (safeMark k g s) (g.server s n).held).counts in
+          let c = (tidied_law k (safe_mark k g s) (g.server s n).held).counts in
           let few = f.versions in
-          record { site-is = f.site-is; sites-is = f.sites-is; versions = omega arith; entries = f.entries; reading = f.reading }
+          record { site_is = f.site_is; sites_is = f.sites_is; versions = omega arith; entries = f.entries; reading = f.reading }
 
   -- ---- a server issues an entry
 
-  module _ (s n : ℕ) (in-s : s < g.sites) where
+  module _ (s n : ℕ) (in_s : s < g.sites) where
     abbrev srv : ServerState
     srv = g.server s n
 
     -- the received row and the outbox of a server that has issued an entry, by the server's place
-    pub issued-received : (t : ℕ) → set2 (λ i m. (g.server i m).marks.received) s n (withEntry srv.marks.received srv.site t) ≡ receiving (λ i m. (g.server i m).marks.received) s n s t
-    issued-received t = ap (λ (z : ℕ). set2 (λ i m. (g.server i m).marks.received) s n (withEntry srv.marks.received z t)) (v.frame.servers s n).site-is
+    pub issued_received : (t : ℕ) → set2 (λ i m. (g.server i m).marks.received) s n (with_entry srv.marks.received srv.site t) ≡ receiving (λ i m. (g.server i m).marks.received) s n s t
+    issued_received t = ap (λ (z : ℕ). set2 (λ i m. (g.server i m).marks.received) s n (with_entry srv.marks.received z t)) (v.frame.servers s n).site_is
 
-    pub issued-waits : (e : Sent) → set2 (λ i m. (g.server i m).waiting) s n (issued srv.site srv.sites srv.waiting e) ≡ sending g.sites (λ i m. (g.server i m).waiting) s n e
-    issued-waits e =
-        ap (λ (z : ℕ). set2 (λ i m. (g.server i m).waiting) s n (issued z srv.sites srv.waiting e)) (v.frame.servers s n).site-is
-        ∙ ap (λ (z : ℕ). set2 (λ i m. (g.server i m).waiting) s n (issued s z srv.waiting e)) (v.frame.servers s n).sites-is
+    pub issued_waits : (e : Sent) → set2 (λ i m. (g.server i m).waiting) s n (issued srv.site srv.sites srv.waiting e) ≡ sending g.sites (λ i m. (g.server i m).waiting) s n e
+    issued_waits e =
+        ap (λ (z : ℕ). set2 (λ i m. (g.server i m).waiting) s n (issued z srv.sites srv.waiting e)) (v.frame.servers s n).site_is
+        ∙ ap (λ (z : ℕ). set2 (λ i m. (g.server i m).waiting) s n (issued s z srv.waiting e)) (v.frame.servers s n).sites_is
 
     -- the last stamp, as the server and as the tables have it
-    pub last-is : last_of srv ≡ last (λ i m. (g.server i m).marks.received) s n
-    last-is = ap (at srv.marks.received) (v.frame.servers s n).site-is
+    pub last_is : last_of srv ≡ last (λ i m. (g.server i m).marks.received) s n
+    last_is = ap (at srv.marks.received) (v.frame.servers s n).site_is
 
-    pub issued-entries : (e : Sent) → outboxFull srv.site srv.sites srv.waiting ≡ false → (site : ℕ) → length (issued srv.site srv.sites srv.waiting e site) ≤ 16
-    issued-entries e room =
+    pub issued_entries : (e : Sent) → outbox_full srv.site srv.sites srv.waiting ≡ false → (site : ℕ) → length (issued srv.site srv.sites srv.waiting e site) ≤ 16
+    issued_entries e room =
         let f = v.frame.servers s n in
-        issued-few srv.site srv.sites srv.waiting e (subst (λ (z : ℕ). z ≤ 4) (sym f.sites-is) v.frame.four) room f.entries
+        issued_few srv.site srv.sites srv.waiting e (subst (λ (z : ℕ). z ≤ 4) (sym f.sites_is) v.frame.four) room f.entries
 
-    beat-kept : (t : ℕ) → outboxFull srv.site srv.sites srv.waiting ≡ false → last_of srv < t → t < 2 ^ 63 → Kept k sites h g G nothing (withServer g s n (issuing srv (heartbeat t)))
-    beat-kept t room new small =
+    beat_kept : (t : ℕ) → outbox_full srv.site srv.sites srv.waiting ≡ false → last_of srv < t → t < 2 ^ 63 → Kept k sites h g G nothing (with_server g s n (issuing srv (heartbeat t)))
+    beat_kept t room new small =
         let f = v.frame.servers s n in
         one_kept s n (issuing srv (heartbeat t))
-        (record { site-is = f.site-is; sites-is = f.sites-is; versions = f.versions; entries = issued-entries (heartbeat t) room; reading = f.reading })
-        (place-server law g v.frame.four v.frame.some v.core s n (issuing srv (heartbeat t))
-        (set2-same _ s n _ refl) (issued-received t) (set2-same _ s n _ refl) (set2-same _ s n _ refl) (issued-waits (heartbeat t))
-        (v.core.marks.stable-mark s n) (covers_self srv.marks.stable)
-        (beaten-too v.core s n in-s t (subst (λ (z : ℕ). z < t) last-is new) small))
+        (record { site_is = f.site_is; sites_is = f.sites_is; versions = f.versions; entries = issued_entries (heartbeat t) room; reading = f.reading })
+        (place_server law g v.frame.four v.frame.some v.core s n (issuing srv (heartbeat t))
+        (set2_same _ s n _ refl) (issued_received t) (set2_same _ s n _ refl) (set2_same _ s n _ refl) (issued_waits (heartbeat t))
+        (v.core.marks.stable_mark s n) (covers_self srv.marks.stable)
+        (beaten_too v.core s n in_s t (subst (λ (z : ℕ). z < t) last_is new) small))
 
-  pub keeps-heartbeat : (rule : Rule) → LawfulRule rule → (s n : ℕ) → Kept k sites h g G nothing (onServer g s n (beaten rule)).1
-  keeps-heartbeat rule clock s n = on-kept s n (beaten rule) (λ in-s _.
-      cond_both {A = Result ℕ Refusal × ServerState} (outboxFull (g.server s n).site (g.server s n).sites (g.server s n).waiting) (Err OutboxFull, g.server s n) (beatenAt (g.server s n) answer) (λ r. Kept k sites h g G nothing (serverLeft g s n r).1)
-      (λ _. refused-kept v)
-      (λ room. go in-s room answer (clock.allowed (last_of (g.server s n)) (g.server s n).reading 0 (stamps-at (g.server s n).marks.received (g.server s n).site (v.core.marks.received-stamps s n)) (v.frame.servers s n).reading (lit< tt))))
+  pub keeps_heartbeat : (rule : Rule) → LawfulRule rule → (s n : ℕ) → Kept k sites h g G nothing (on_server g s n (beaten rule)).1
+  keeps_heartbeat rule clock s n = on_kept s n (beaten rule) (λ in_s _.
+      cond_both {A = Result ℕ Refusal × ServerState} (outbox_full (g.server s n).site (g.server s n).sites (g.server s n).waiting) (Err OutboxFull, g.server s n) (beaten_at (g.server s n) answer) (λ r. Kept k sites h g G nothing (server_left g s n r).1)
+      (λ _. refused_kept v)
+      (λ room. go in_s room answer (clock.allowed (last_of (g.server s n)) (g.server s n).reading 0 (stamps_at (g.server s n).marks.received (g.server s n).site (v.core.marks.received_stamps s n)) (v.frame.servers s n).reading (lit< tt))))
     where
       answer : Result ℕ Refusal
       answer = rule (last_of (g.server s n)) (g.server s n).reading 0
 
-      go : s < g.sites → outboxFull (g.server s n).site (g.server s n).sites (g.server s n).waiting ≡ false → (r : Result ℕ Refusal) → Allowed (last_of (g.server s n)) 0 r → Kept k sites h g G nothing (serverLeft g s n (beatenAt (g.server s n) r)).1
-      go in-s room (Ok t) a = beat-kept s n in-s t room a.0 a.2
-      go in-s room (Err why) a = refused-kept v
+      go : s < g.sites → outbox_full (g.server s n).site (g.server s n).sites (g.server s n).waiting ≡ false → (r : Result ℕ Refusal) → Allowed (last_of (g.server s n)) 0 r → Kept k sites h g G nothing (server_left g s n (beaten_at (g.server s n) r)).1
+      go in_s room (Ok t) a = beat_kept s n in_s t room a.0 a.2
+      go in_s room (Err why) a = refused_kept v
 
   -- ---- a site takes an entry
 
@@ -189,95 +189,95 @@ module _ {k : Kind} (law : LawfulKind k) {sites : ℕ} {h : History} {g : GroupS
     abbrev taker : ServerState
     taker = g.server to n
 
-    not-to : from ≡ to → n ≡ n → ⊥
-    not-to a _ = apart a
+    not_to : from ≡ to → n ≡ n → ⊥
+    not_to a _ = apart a
 
     -- the tables once the taker has become x and the sender has handed the entry over
-    taken-tables : (x : ServerState) {held : ℕ → ℕ → List VersionState} → set2 (λ i m. (g.server i m).held) to n x.held ≡ held →
-        x.marks.received ≡ withEntry taker.marks.received from (stampOf e) → x.marks.reported ≡ taker.marks.reported → x.marks.stable ≡ taker.marks.stable → x.waiting ≡ taker.waiting →
-        Core k L (Past h) (withEntries (tables k g) held (receiving (λ i m. (g.server i m).marks.received) to n from (stampOf e)) (handedOver (λ i m. (g.server i m).waiting) from to n)) G →
-        Core k L (Past h) (tables k (withServer (withServer g to n x) from n (handing sender to))) G
-    taken-tables x {held} same-held same_received same-reported same-stable same-waits core =
+    taken_tables : (x : ServerState) {held : ℕ → ℕ → List VersionState} → set2 (λ i m. (g.server i m).held) to n x.held ≡ held →
+        x.marks.received ≡ with_entry taker.marks.received from (stamp_of e) → x.marks.reported ≡ taker.marks.reported → x.marks.stable ≡ taker.marks.stable → x.waiting ≡ taker.waiting →
+        Core k L (Past h) (with_entries (tables k g) held (receiving (λ i m. (g.server i m).marks.received) to n from (stamp_of e)) (handed_over (λ i m. (g.server i m).waiting) from to n)) G →
+        Core k L (Past h) (tables k (with_server (with_server g to n x) from n (handing sender to))) G
+    taken_tables x {held} same-held same_received same-reported same-stable same-waits core =
         subst (λ (T : Tables). Core k L (Past h) T G)
-        (sym (tables-server k (withServer g to n x) from n (handing sender to)
+        (sym (tables_server k (with_server g to n x) from n (handing sender to)
         (both (λ (y : ServerState). y.held) sender.held refl ∙ same-held)
         (both (λ (y : ServerState). y.marks.received) sender.marks.received refl ∙ ap (λ (m : Four). set2 (λ i j. (g.server i j).marks.received) to n m) same_received)
-        (both (λ (y : ServerState). y.marks.reported) sender.marks.reported refl ∙ set2-same _ to n _ same-reported)
-        (both (λ (y : ServerState). y.marks.stable) sender.marks.stable refl ∙ set2-same _ to n _ same-stable)
-        (ap (λ (f : ℕ → ℕ → ℕ → List Sent). set2 f from n (takenBy sender.waiting to)) (set2-field (λ (y : ServerState). y.waiting) g.server to n x ∙ set2-same _ to n _ same-waits))))
-        (safer (safeMark k (withServer (withServer g to n x) from n (handing sender to)))
-        (λ s' _. safe-servers law g v.frame.four v.frame.some v.core (set2 (set2 g.server to n x) from n (handing sender to))
-        (λ i m. subst (Mark k) (sym (stable-same i m)) (v.core.marks.stable-mark i m))
-        (λ i m. subst (λ (z : Four). Covers z (g.server i m).marks.stable) (sym (stable-same i m)) (covers_self (g.server i m).marks.stable)) s')
+        (both (λ (y : ServerState). y.marks.reported) sender.marks.reported refl ∙ set2_same _ to n _ same-reported)
+        (both (λ (y : ServerState). y.marks.stable) sender.marks.stable refl ∙ set2_same _ to n _ same-stable)
+        (ap (λ (f : ℕ → ℕ → ℕ → List Sent). set2 f from n (taken_by sender.waiting to)) (set2_field (λ (y : ServerState). y.waiting) g.server to n x ∙ set2_same _ to n _ same-waits))))
+        (safer (safe_mark k (with_server (with_server g to n x) from n (handing sender to)))
+        (λ s' _. safe_servers law g v.frame.four v.frame.some v.core (set2 (set2 g.server to n x) from n (handing sender to))
+        (λ i m. subst (Mark k) (sym (stable_same i m)) (v.core.marks.stable_mark i m))
+        (λ i m. subst (λ (z : Four). Covers z (g.server i m).marks.stable) (sym (stable_same i m)) (covers_self (g.server i m).marks.stable)) s')
         core)
       where
         -- the sender's field is as it was, so only the taker's has changed
         both : {A : Type 0} (p : ServerState → A) (y : A) → y ≡ p sender → set2 (λ i m. p (set2 g.server to n x i m)) from n y ≡ set2 (λ i m. p (g.server i m)) to n (p x)
         both p y e =
-            ap (λ f. set2 f from n y) (set2-field p g.server to n x)
-            ∙ set2-same (set2 (λ i m. p (g.server i m)) to n (p x)) from n y (e ∙ sym (set2-other (λ i m. p (g.server i m)) to n (p x) from n not-to))
+            ap (λ f. set2 f from n y) (set2_field p g.server to n x)
+            ∙ set2_same (set2 (λ i m. p (g.server i m)) to n (p x)) from n y (e ∙ sym (set2_other (λ i m. p (g.server i m)) to n (p x) from n not_to))
 
-        stable-same : (i m : ℕ) → (set2 (set2 g.server to n x) from n (handing sender to) i m).marks.stable ≡ (g.server i m).marks.stable
-        stable-same i m = set2-cases (set2 g.server to n x) from n (handing sender to) i m (λ y. y.marks.stable ≡ (g.server i m).marks.stable)
+        stable_same : (i m : ℕ) → (set2 (set2 g.server to n x) from n (handing sender to) i m).marks.stable ≡ (g.server i m).marks.stable
+        stable_same i m = set2_cases (set2 g.server to n x) from n (handing sender to) i m (λ y. y.marks.stable ≡ (g.server i m).marks.stable)
             (λ a b. ap (λ (z : ℕ). (g.server z n).marks.stable) (sym a) ∙ ap (λ (z : ℕ). (g.server i z).marks.stable) (sym b))
-            (λ _. set2-cases g.server to n x i m (λ y. y.marks.stable ≡ (g.server i m).marks.stable)
+            (λ _. set2_cases g.server to n x i m (λ y. y.marks.stable ≡ (g.server i m).marks.stable)
             (λ a b. same-stable ∙ (ap (λ (z : ℕ). (g.server z n).marks.stable) (sym a) ∙ ap (λ (z : ℕ). (g.server i z).marks.stable) (sym b)))
             (λ _. refl))
 
-    taken-kept : (x : ServerState) → ServerFrame g.sites to x → Core k L (Past h) (tables k (withServer (withServer g to n x) from n (handing sender to))) G →
-        Kept k sites h g G nothing (withServer (withServer g to n x) from n (handing sender to))
-    taken-kept x f core = servers-kept v (set2 (set2 g.server to n x) from n (handing sender to))
-        (λ i m. set2-cases (set2 g.server to n x) from n (handing sender to) i m (ServerFrame g.sites i)
+    taken_kept : (x : ServerState) → ServerFrame g.sites to x → Core k L (Past h) (tables k (with_server (with_server g to n x) from n (handing sender to))) G →
+        Kept k sites h g G nothing (with_server (with_server g to n x) from n (handing sender to))
+    taken_kept x f core = servers_kept v (set2 (set2 g.server to n x) from n (handing sender to))
+        (λ i m. set2_cases (set2 g.server to n x) from n (handing sender to) i m (ServerFrame g.sites i)
         (λ a _. subst (λ (z : ℕ). ServerFrame g.sites z (handing sender to)) (sym a) handed)
-        (λ _. server-frames to n x f i m))
+        (λ _. server_frames to n x f i m))
         core
       where
         handed : ServerFrame g.sites from (handing sender to)
-        handed = let f = v.frame.servers from n in record { site-is = f.site-is; sites-is = f.sites-is; versions = f.versions; entries = taken-few sender.waiting to f.entries; reading = f.reading }
+        handed = let f = v.frame.servers from n in record { site_is = f.site_is; sites_is = f.sites_is; versions = f.versions; entries = taken_few sender.waiting to f.entries; reading = f.reading }
 
-  update-beat : (w : VersionState) (t : ℕ) → update w ≡ heartbeat t → ⊥
-  update-beat w t e = let z : ◌≡◌ {A = ℕ} 0 1 = cc in omega arith
+  update_beat : (w : VersionState) (t : ℕ) → update w ≡ heartbeat t → ⊥
+  update_beat w t e = let z : ◌≡◌ {A = ℕ} 0 1 = cc in omega arith
 
-  took-kept : (from to n : ℕ) (e : Sent) (rest : List Sent) → from < g.sites → to < g.sites → (from ≡ to → ⊥) → (g.server from n).waiting to ≡ e ∷ rest →
-      Kept k sites h g G nothing (tookLeft g from to n (takingOther (g.server to n) from e)).1
-  took-kept from to n (heartbeat t) rest lf lt apart waiting =
-      let x = receivingServer (g.server to n) from t in
-      taken-kept from to n (heartbeat t) rest lf lt apart waiting x (marks-frame to n _)
-      (taken-tables from to n (heartbeat t) rest lf lt apart waiting x (set2-same _ to n _ refl) refl refl refl refl
-      (taken-beat v.core from to n (heartbeat t) rest lf lt apart waiting (λ w d. update-beat w t d)))
-  took-kept from to n (update w) rest lf lt apart waiting =
-      cond_both {A = Result Done Refusal × ServerState} (tableFull (g.server to n).held) (Err TableFull, g.server to n) (Ok tt, x) (λ r. Kept k sites h g G nothing (tookLeft g from to n r).1)
-      (λ _. refused-kept v)
-      (λ room. taken-kept from to n (update w) rest lf lt apart waiting x (frame room)
-      (taken-tables from to n (update w) rest lf lt apart waiting x refl refl refl refl refl
-      (taken-update v.core from to n (update w) rest lf lt apart waiting w refl)))
+  took_kept : (from to n : ℕ) (e : Sent) (rest : List Sent) → from < g.sites → to < g.sites → (from ≡ to → ⊥) → (g.server from n).waiting to ≡ e ∷ rest →
+      Kept k sites h g G nothing (took_left g from to n (taking_other (g.server to n) from e)).1
+  took_kept from to n (heartbeat t) rest lf lt apart waiting =
+      let x = receiving_server (g.server to n) from t in
+      taken_kept from to n (heartbeat t) rest lf lt apart waiting x (marks_frame to n _)
+      (taken_tables from to n (heartbeat t) rest lf lt apart waiting x (set2_same _ to n _ refl) refl refl refl refl
+      (taken_beat v.core from to n (heartbeat t) rest lf lt apart waiting (λ w d. update_beat w t d)))
+  took_kept from to n (update w) rest lf lt apart waiting =
+      cond_both {A = Result Done Refusal × ServerState} (table_full (g.server to n).held) (Err TableFull, g.server to n) (Ok tt, x) (λ r. Kept k sites h g G nothing (took_left g from to n r).1)
+      (λ _. refused_kept v)
+      (λ room. taken_kept from to n (update w) rest lf lt apart waiting x (frame room)
+      (taken_tables from to n (update w) rest lf lt apart waiting x refl refl refl refl refl
+      (taken_update v.core from to n (update w) rest lf lt apart waiting w refl)))
     where
       x : ServerState
-      x = receivingServer (keeping (g.server to n) w) from w.stamp
+      x = receiving_server (keeping (g.server to n) w) from w.stamp
 
-      frame : tableFull (g.server to n).held ≡ false → ServerFrame g.sites to x
+      frame : table_full (g.server to n).held ≡ false → ServerFrame g.sites to x
       frame room =
           let f = v.frame.servers to n in
           let few = leb-false 32 (length (g.server to n).held) room in
           let more = length-append (g.server to n).held (w ∷ []) in
-          record { site-is = f.site-is; sites-is = f.sites-is; versions = omega arith; entries = f.entries; reading = f.reading }
+          record { site_is = f.site_is; sites_is = f.sites_is; versions = omega arith; entries = f.entries; reading = f.reading }
 
-  pub keeps-deliver : (from to n : ℕ) →
-      Kept k sites h g G nothing (cond {A = Result Done Refusal × GroupState} (hasServer g from n && (hasServer g to n && not (eqb from to))) (delivered g from to n (nextFor (g.server from n).waiting to)) (Err NotInLayout, g)).1
-  keeps-deliver from to n =
-      cond_both {A = Result Done Refusal × GroupState} (hasServer g from n && (hasServer g to n && not (eqb from to))) (delivered g from to n (nextFor (g.server from n).waiting to)) (Err NotInLayout, g) (λ r. Kept k sites h g G nothing r.1)
+  pub keeps_deliver : (from to n : ℕ) →
+      Kept k sites h g G nothing (cond {A = Result Done Refusal × GroupState} (has_server g from n && (has_server g to n && not (eqb from to))) (delivered g from to n (next_for (g.server from n).waiting to)) (Err NotInLayout, g)).1
+  keeps_deliver from to n =
+      cond_both {A = Result Done Refusal × GroupState} (has_server g from n && (has_server g to n && not (eqb from to))) (delivered g from to n (next_for (g.server from n).waiting to)) (Err NotInLayout, g) (λ r. Kept k sites h g G nothing r.1)
       (λ e.
-      let p = and_parts (hasServer g from n) (hasServer g to n && not (eqb from to)) e in
-      let q = and_parts (hasServer g to n) (not (eqb from to)) p.1 in
-      go (in-layout g from n p.0).0 (in-layout g to n q.0).0 (eqb-false from to (not-true _ q.1)) ((g.server from n).waiting to) refl)
-      (λ _. refused-kept v)
+      let p = and_parts (has_server g from n) (has_server g to n && not (eqb from to)) e in
+      let q = and_parts (has_server g to n) (not (eqb from to)) p.1 in
+      go (in_layout g from n p.0).0 (in_layout g to n q.0).0 (eqb-false from to (not-true _ q.1)) ((g.server from n).waiting to) refl)
+      (λ _. refused_kept v)
     where
       -- the taker's own site is never the sender's
-      other : (e : Sent) → (from ≡ to → ⊥) → Kept k sites h g G nothing (tookLeft g from to n (takingOther (g.server to n) from e)).1 → Kept k sites h g G nothing (tookLeft g from to n (taking (g.server to n) from e)).1
+      other : (e : Sent) → (from ≡ to → ⊥) → Kept k sites h g G nothing (took_left g from to n (taking_other (g.server to n) from e)).1 → Kept k sites h g G nothing (took_left g from to n (taking (g.server to n) from e)).1
       other e apart kept =
-          cond_both {A = Result Done Refusal × ServerState} (eqb from (g.server to n).site) (Err NotInLayout, g.server to n) (takingOther (g.server to n) from e) (λ r. Kept k sites h g G nothing (tookLeft g from to n r).1)
-          (λ _. refused-kept v) (λ _. kept)
+          cond_both {A = Result Done Refusal × ServerState} (eqb from (g.server to n).site) (Err NotInLayout, g.server to n) (taking_other (g.server to n) from e) (λ r. Kept k sites h g G nothing (took_left g from to n r).1)
+          (λ _. refused_kept v) (λ _. kept)
 
       go : from < g.sites → to < g.sites → (from ≡ to → ⊥) → (q : List Sent) → (g.server from n).waiting to ≡ q → Kept k sites h g G nothing (delivered g from to n (first q)).1
-      go lf lt apart [] waiting = refused-kept v
-      go lf lt apart (e ∷ rest) waiting = other e apart (took-kept from to n e rest lf lt apart waiting)
+      go lf lt apart [] waiting = refused_kept v
+      go lf lt apart (e ∷ rest) waiting = other e apart (took_kept from to n e rest lf lt apart waiting)

@@ -7,177 +7,177 @@ use Rattle.stamps.specs.Clocks.{Allowed, LawfulRule}
 use Rattle.stamps.specs.Rows.{Four, Covers, at, greatest, join}
 use Rattle.marks.specs.Kinds.{Kind, LawfulKind}
 use Rattle.servers.specs.Laws.{In, IsLatest, Passes}
-use Rattle.servers.specs.Outboxes.{outboxFull}
-use Rattle.servers.specs.Servers.{Rule, ServerState, last_of, latestVisible, puttingAt, sees}
-use Rattle.servers.specs.Tables.{tableFull}
-use Rattle.servers.specs.Values.{Worth, worthFrom}
-use Rattle.servers.specs.Versions.{VersionState, fullMark}
-use Rattle.servers.proofs.Latest.{latest-law}
-use Rattle.model.specs.Calls.{asked, hearing, learning, putLeft, putWorth, safeMark, showing, shownOf}
-use Rattle.model.specs.Events.{Put, AsLate, Later, Shown, putShown, get, put, History}
-use Rattle.model.specs.Groups.{GroupState, SessionState, first_of, partitionOf, sessionAt}
-use Rattle.model.specs.GroupStore.{held_at, joined, maySee}
-use Rattle.model.specs.Pasts.{ofSession, ofPut, Past, siteOf}
+use Rattle.servers.specs.Outboxes.{outbox_full}
+use Rattle.servers.specs.Servers.{Rule, ServerState, last_of, latest_visible, putting_at, sees}
+use Rattle.servers.specs.Tables.{table_full}
+use Rattle.servers.specs.Values.{Worth, worth_from}
+use Rattle.servers.specs.Versions.{VersionState, full_mark}
+use Rattle.servers.proofs.Latest.{latest_law}
+use Rattle.model.specs.Calls.{asked, hearing, learning, put_left, put_worth, safe_mark, showing, shown_of}
+use Rattle.model.specs.Events.{Put, AsLate, Later, Shown, put_shown, get, put, History}
+use Rattle.model.specs.Groups.{GroupState, SessionState, first_of, partition_of, session_at}
+use Rattle.model.specs.GroupStore.{held_at, joined, may_see}
+use Rattle.model.specs.Pasts.{of_session, of_put, Past, site_of}
 use Rattle.model.specs.Promises.{ShowsAsLate, WasPut}
-use Rattle.model.proofs.Rows.{Mark, covers-trans, covers-from, at-greatest, floor-mark, floor-over, full-stamp, join-left, join-right, join-mark, stamps-at}
+use Rattle.model.proofs.Rows.{Mark, covers_trans, covers_from, at_greatest, floor_mark, floor_over, full_stamp, join_left, join_right, join_mark, stamps_at}
 use Rattle.model.proofs.Lists.{in_either, in_left, in_right}
-use Rattle.model.proofs.Floors.{first-in, in-first}
+use Rattle.model.proofs.Floors.{first_in, in_first}
 use Rattle.model.proofs.Invariant.{Shape, Ghost, name_of, part, last, StandsIn, Reached}
 use Rattle.model.proofs.Effects.{part_small}
-use Rattle.model.proofs.GroupEffects.{shape, safe-rows}
-use Rattle.model.proofs.Safe.{safe-stable}
-use Rattle.model.proofs.Showing.{as-late-trans, stands-late}
-use Rattle.model.proofs.Histories.{Inv, shownOption}
+use Rattle.model.proofs.GroupEffects.{shape, safe_rows_lem}
+use Rattle.model.proofs.Safe.{safe_stable}
+use Rattle.model.proofs.Showing.{as_late_trans, stands_late}
+use Rattle.model.proofs.Histories.{Inv, shown_option}
 
 -- ---- what a site holds, by its servers
 
-in-joined : {A : Type 0} (x : A) (xss : List (List A)) → In x (joined xss) → (xs : List A) × In xs xss × In x xs
-in-joined x [] i = absurd i
-in-joined x (xs ∷ xss) i = ⊎_elim (λ j. (xs, inl refl, j)) (λ j. let r = in-joined x xss j in (r.0, inr r.1, r.2)) (in_either x xs (joined xss) i)
+in_joined : {A : Type 0} (x : A) (xss : List (List A)) → In x (joined xss) → (xs : List A) × In xs xss × In x xs
+in_joined x [] i = absurd i
+in_joined x (xs ∷ xss) i = ⊎_elim (λ j. (xs, inl refl, j)) (λ j. let r = in_joined x xss j in (r.0, inr r.1, r.2)) (in_either x xs (joined xss) i)
 
 joined_in : {A : Type 0} (x : A) (xss : List (List A)) (xs : List A) → In xs xss → In x xs → In x (joined xss)
 joined_in x [] xs i j = absurd i
 joined_in x (ys ∷ xss) xs (inl e) j = in_left x ys (joined xss) (subst (In x) e j)
 joined_in x (ys ∷ xss) xs (inr i) j = in_right x ys (joined xss) (joined_in x xss xs i j)
 
-pub held-from : (g : GroupState) (s : ℕ) (w : VersionState) → In w (held_at g s) → (n : ℕ) × (n < g.partitions) × In w (g.server s n).held
-held-from g s w i =
-    let r = in-joined w (first_of (λ n. (g.server s n).held) g.partitions) i in
-    let f = first-in (λ n. (g.server s n).held) g.partitions r.0 r.1 in
+pub held_from : (g : GroupState) (s : ℕ) (w : VersionState) → In w (held_at g s) → (n : ℕ) × (n < g.partitions) × In w (g.server s n).held
+held_from g s w i =
+    let r = in_joined w (first_of (λ n. (g.server s n).held) g.partitions) i in
+    let f = first_in (λ n. (g.server s n).held) g.partitions r.0 r.1 in
     (f.0, f.1, subst (In w) f.2 r.2)
 
 pub held_in : (g : GroupState) (s n : ℕ) (w : VersionState) → n < g.partitions → In w (g.server s n).held → In w (held_at g s)
-held_in g s n w l i = joined_in w (first_of (λ m. (g.server s m).held) g.partitions) (g.server s n).held (in-first (λ m. (g.server s m).held) g.partitions n l) i
+held_in g s n w l i = joined_in w (first_of (λ m. (g.server s m).held) g.partitions) (g.server s n).held (in_first (λ m. (g.server s m).held) g.partitions n l) i
 
-pub showing-answer : (k : Kind) (g : GroupState) (i : ℕ) (o : Option VersionState) → (showing k g i o).0 ≡ Ok (shownOption o)
-showing-answer k g i None = refl
-showing-answer k g i (Some w) = refl
+pub showing_answer : (k : Kind) (g : GroupState) (i : ℕ) (o : Option VersionState) → (showing k g i o).0 ≡ Ok (shown_option o)
+showing_answer k g i None = refl
+showing_answer k g i (Some w) = refl
 
 module _ {k : Kind} (law : LawfulKind k) {sites : ℕ} {h : History} {g : GroupState} {G : Ghost} (v : Inv k sites h g G) where
   abbrev L : Shape
   L = shape g v.frame.four v.frame.some
 
-  source-four : (w : VersionState) → In w G.log → w.source < 4
-  source-four w i = let s = v.core.logs.source w i in let f = v.frame.four in omega arith
+  source_four : (w : VersionState) → In w G.log → w.source < 4
+  source_four w i = let s = v.core.logs.source w i in let f = v.frame.four in omega arith
 
   -- (a) a put is later than each put of its key in its past, of whatever key
-  pub put-later : (p q : Put) → Past h (ofPut p) q → Later p q
-  put-later p q past =
-      let b = v.core.pasts.of-put p q past in
+  pub put_later : (p q : Put) → Past h (of_put p) q → Later p q
+  put_later p q past =
+      let b = v.core.pasts.of_put_lem p q past in
       let r = b.reached in
-      let low = full-stamp law r.version b.writer.mark (source-four r.version r.logged) (v.core.logs.small r.version r.logged) r.covered in
-      let high = at-greatest b.writer.mark r.version.source in
+      let low = full_stamp law r.version b.writer.mark (source_four r.version r.logged) (v.core.logs.small r.version r.logged) r.covered in
+      let high = at_greatest b.writer.mark r.version.source in
       let above = v.core.logs.above b.writer b.logged in
-      let stamp-p : b.writer.stamp ≡ p.stamp = ap (λ (z : Put). z.stamp) b.named in
-      let stamp-q : r.version.stamp ≡ q.stamp = ap (λ (z : Put). z.stamp) r.named in
+      let stamp_p : b.writer.stamp ≡ p.stamp = ap (λ (z : Put). z.stamp) b.named in
+      let stamp_q : r.version.stamp ≡ q.stamp = ap (λ (z : Put). z.stamp) r.named in
       (omega arith, λ e. absurd (omega arith))
 
   -- ---- gets
 
   module _ (i key : ℕ) (l : i < length g.sessions) where
     abbrev s : ℕ
-    s = (sessionAt g i).site
+    s = (session_at g i).site
 
     abbrev n : ℕ
-    n = partitionOf g key
+    n = partition_of g key
 
     abbrev heard : ServerState
-    heard = hearing k g (sessionAt g i) (partitionOf g key)
+    heard = hearing k g (session_at g i) (partition_of g key)
 
     abbrev found : Option VersionState
-    found = latestVisible k (hearing k g (sessionAt g i) (partitionOf g key)) key
+    found = latest_visible k (hearing k g (session_at g i) (partition_of g key)) key
 
-    pub get-answer : (rule : Rule) → (asked rule k g (get i key)).0 ≡ Ok (shownOption (latestVisible k (hearing k g (sessionAt g i) (partitionOf g key)) key))
-    get-answer rule =
-        ap (λ (r : Result (Option Shown) Refusal × GroupState). r.0) (cond-true (ltb i (length g.sessions)) (showing k (learning k g i (sessionAt g i) (partitionOf g key)) i found) (Err NoSession, g) (lt-ltb _ _ l))
-        ∙ showing-answer k (learning k g i (sessionAt g i) (partitionOf g key)) i found
+    pub get_answer : (rule : Rule) → (asked rule k g (get i key)).0 ≡ Ok (shown_option (latest_visible k (hearing k g (session_at g i) (partition_of g key)) key))
+    get_answer rule =
+        ap (λ (r : Result (Option Shown) Refusal × GroupState). r.0) (cond-true (ltb i (length g.sessions)) (showing k (learning k g i (session_at g i) (partition_of g key)) i found) (Err NoSession, g) (lt-ltb _ _ l))
+        ∙ showing_answer k (learning k g i (session_at g i) (partition_of g key)) i found
 
-    get-latest : IsLatest (sees k heard) key (g.server s n).held found
-    get-latest = latest-law (sees k heard) key heard.held
+    get_latest : IsLatest (sees k heard) key (g.server s n).held found
+    get_latest = latest_law (sees k heard) key heard.held
 
     abbrev stable : Four
     stable = (g.server s n).marks.stable
 
     abbrev knows : Four
-    knows = (sessionAt g i).knows
+    knows = (session_at g i).knows
 
-    stable-mark : Mark k (join (k.floor (g.server s n).marks.stable) (k.floor (sessionAt g i).knows))
-    stable-mark = join-mark law (floor-mark law (v.core.marks.stable-mark s n).0) (floor-mark law (v.core.sessions i l).knows-mark.0)
+    stable_mark : Mark k (join (k.floor (g.server s n).marks.stable) (k.floor (session_at g i).knows))
+    stable_mark = join_mark law (floor_mark law (v.core.marks.stable_mark s n).0) (floor_mark law (v.core.sessions i l).knows_mark.0)
 
     -- a version whose full mark is below the stable mark or below what the session knows is seen
-    seen-from : (w : VersionState) → Covers (join (k.floor (g.server s n).marks.stable) (k.floor (sessionAt g i).knows)) (fullMark k w) → sees k heard w ≡ true
-    seen-from w c = or_right (eqb w.source heard.site) _ (covers-from (k.floor heard.marks.stable) (fullMark k w) (covers-trans (floor-over law stable-mark) c))
+    seen_from : (w : VersionState) → Covers (join (k.floor (g.server s n).marks.stable) (k.floor (session_at g i).knows)) (full_mark k w) → sees k heard w ≡ true
+    seen_from w c = or_right (eqb w.source heard.site) _ (covers_from (k.floor heard.marks.stable) (full_mark k w) (covers_trans (floor_over law stable_mark) c))
 
     -- for each put in the session's past, the get shows it or a later one
-    pub shows-past : (p : Put) → p.key ≡ key → Past h (ofSession i) p → ShowsAsLate key (Ok (shownOption found)) p
-    shows-past p same_key past = go found get-latest
+    pub shows_past : (p : Put) → p.key ≡ key → Past h (of_session i) p → ShowsAsLate key (Ok (shown_option found)) p
+    shows_past p same_key past = go found get_latest
       where
-        r : Reached k L (λ a b. (g.server a b).marks.received) G.log s (sessionAt g i).depends (sessionAt g i).knows p
-        r = v.core.pasts.of-session i p past
+        r : Reached k L (λ a b. (g.server a b).marks.received) G.log s (session_at g i).depends (session_at g i).knows p
+        r = v.core.pasts.of_session_lem i p past
 
-        key-is : r.version.key ≡ key
-        key-is = ap (λ (z : Put). z.key) r.named ∙ same_key
+        key_is : r.version.key ≡ key
+        key_is = ap (λ (z : Put). z.key) r.named ∙ same_key
 
-        x : StandsIn k (g.server s (part L r.version.key)).held (safeMark k g s) r.version
+        x : StandsIn k (g.server s (part L r.version.key)).held (safe_mark k g s) r.version
         x = v.core.holds.kept r.version s (v.core.sessions i l).inside r.logged r.here
 
         there : In x.other (g.server s n).held
-        there = subst (λ (z : ℕ). In x.other (g.server s (part L z)).held) key-is x.there
+        there = subst (λ (z : ℕ). In x.other (g.server s (part L z)).held) key_is x.there
 
-        seen-itself : (r.version.source ≡ s) ⊎ Covers (sessionAt g i).knows (fullMark k r.version) → sees k heard r.version ≡ true
-        seen-itself (inl own) = or_left (eqb r.version.source heard.site) _ (eq-eqb _ _ (own ∙ sym (v.frame.servers s n).site-is))
-        seen-itself (inr c) = seen-from r.version (covers-trans (join-right (k.floor stable) (k.floor knows)) (covers-trans (floor-over law (v.core.sessions i l).knows-mark) c))
+        seen_itself : (r.version.source ≡ s) ⊎ Covers (session_at g i).knows (full_mark k r.version) → sees k heard r.version ≡ true
+        seen_itself (inl own) = or_left (eqb r.version.source heard.site) _ (eq-eqb _ _ (own ∙ sym (v.frame.servers s n).site_is))
+        seen_itself (inr c) = seen_from r.version (covers_trans (join_right (k.floor stable) (k.floor knows)) (covers_trans (floor_over law (v.core.sessions i l).knows_mark) c))
 
-        seen : (x.other ≡ r.version) ⊎ (Later (name_of x.other) (name_of r.version) × Covers (safeMark k g s) (fullMark k x.other)) → sees k heard x.other ≡ true
-        seen (inl e) = subst (λ (z : VersionState). sees k heard z ≡ true) (sym e) (seen-itself r.seen)
-        seen (inr (_, c)) = seen-from x.other (covers-trans (join-left (k.floor stable) (k.floor knows)) (covers-trans (floor-over law (v.core.marks.stable-mark s n))
-            (covers-trans (safe-stable law g s (safe-rows law g v.frame.four v.frame.some v.core s) n (part_small L key)) c)))
+        seen : (x.other ≡ r.version) ⊎ (Later (name_of x.other) (name_of r.version) × Covers (safe_mark k g s) (full_mark k x.other)) → sees k heard x.other ≡ true
+        seen (inl e) = subst (λ (z : VersionState). sees k heard z ≡ true) (sym e) (seen_itself r.seen)
+        seen (inr (_, c)) = seen_from x.other (covers_trans (join_left (k.floor stable) (k.floor knows)) (covers_trans (floor_over law (v.core.marks.stable_mark s n))
+            (covers_trans (safe_stable law g s (safe_rows_lem law g v.frame.four v.frame.some v.core s) n (part_small L key)) c)))
 
         passes : Passes (sees k heard) key x.other
-        passes = (x.same_key ∙ key-is, seen x.how)
+        passes = (x.same_key ∙ key_is, seen x.how)
 
-        go : (o : Option VersionState) → IsLatest (sees k heard) key (g.server s n).held o → ShowsAsLate key (Ok (shownOption o)) p
+        go : (o : Option VersionState) → IsLatest (sees k heard) key (g.server s n).held o → ShowsAsLate key (Ok (shown_option o)) p
         go None best = absurd (best x.other there passes)
-        go (Some w) best = subst (λ (z : Put). AsLate (name_of w) z) r.named (as-late-trans (name_of w) (name_of x.other) (name_of r.version) (best.2 x.other there passes) (stands-late x))
+        go (Some w) best = subst (λ (z : Put). AsLate (name_of w) z) r.named (as_late_trans (name_of w) (name_of x.other) (name_of r.version) (best.2 x.other there passes) (stands_late x))
 
     -- what the get shows was put
-    pub shows-put : (u : Shown) → shownOption found ≡ Some u → WasPut h (putShown key u) u.value
-    shows-put u = go found get-latest
+    pub shows_put : (u : Shown) → shown_option found ≡ Some u → WasPut h (put_shown key u) u.value
+    shows_put u = go found get_latest
       where
-        go : (o : Option VersionState) → IsLatest (sees k heard) key (g.server s n).held o → shownOption o ≡ Some u → WasPut h (putShown key u) u.value
+        go : (o : Option VersionState) → IsLatest (sees k heard) key (g.server s n).held o → shown_option o ≡ Some u → WasPut h (put_shown key u) u.value
         go None best e = let z : ◌≡◌ {A = ℕ} 0 1 = cc in absurd (omega arith)
         go (Some w) best e =
-            let same : shownOf w ≡ u = cc in
-            subst (λ (z : Shown). WasPut h (putShown key z) z.value) same
+            let same : shown_of w ≡ u = cc in
+            subst (λ (z : Shown). WasPut h (put_shown key z) z.value) same
             (subst (λ (z : ℕ). WasPut h (record { key = z; stamp = w.stamp; source = w.source }) w.value) best.1.0 (v.written w (v.core.holds.had w s n best.0).0))
 
     -- the get shows none exactly when the site holds no version of the key that the session may see
-    pub none_seen : shownOption found ≡ None → (w : VersionState) → In w (held_at g s) → w.key ≡ key → maySee k g i w ≡ true → ⊥
-    none_seen e w i' same may = go found get-latest e
+    pub none_seen : shown_option found ≡ None → (w : VersionState) → In w (held_at g s) → w.key ≡ key → may_see k g i w ≡ true → ⊥
+    none_seen e w i' same may = go found get_latest e
       where
         held : In w (g.server s n).held
         held =
-            let r = held-from g s w i' in
+            let r = held_from g s w i' in
             let at_n : part L w.key ≡ r.0 = (v.core.holds.had w s r.0 r.2).1 in
             subst (λ (z : ℕ). In w (g.server s (part L z)).held) same (subst (λ (z : ℕ). In w (g.server s z).held) (sym at_n) r.2)
 
         passes : Passes (sees k heard) key w
-        passes = (same, subst (λ (z : ℕ). sees k (hearing k g (sessionAt g i) (z % g.partitions)) w ≡ true) same may)
+        passes = (same, subst (λ (z : ℕ). sees k (hearing k g (session_at g i) (z % g.partitions)) w ≡ true) same may)
 
-        go : (o : Option VersionState) → IsLatest (sees k heard) key (g.server s n).held o → shownOption o ≡ None → ⊥
+        go : (o : Option VersionState) → IsLatest (sees k heard) key (g.server s n).held o → shown_option o ≡ None → ⊥
         go None best f = best w held passes
         go (Some u) best f = let z : ◌≡◌ {A = ℕ} 0 1 = cc in absurd (omega arith)
 
-    pub some-seen : (u : Shown) → shownOption found ≡ Some u → (w : VersionState) × In w (held_at g s) × (w.key ≡ key) × (maySee k g i w ≡ true)
-    some-seen u = go found get-latest
+    pub some_seen : (u : Shown) → shown_option found ≡ Some u → (w : VersionState) × In w (held_at g s) × (w.key ≡ key) × (may_see k g i w ≡ true)
+    some_seen u = go found get_latest
       where
-        go : (o : Option VersionState) → IsLatest (sees k heard) key (g.server s n).held o → shownOption o ≡ Some u → (w : VersionState) × In w (held_at g s) × (w.key ≡ key) × (maySee k g i w ≡ true)
+        go : (o : Option VersionState) → IsLatest (sees k heard) key (g.server s n).held o → shown_option o ≡ Some u → (w : VersionState) × In w (held_at g s) × (w.key ≡ key) × (may_see k g i w ≡ true)
         go None best e = let z : ◌≡◌ {A = ℕ} 0 1 = cc in absurd (omega arith)
-        go (Some w) best e = (w, held_in g s n w (part_small L key) best.0, best.1.0, subst (λ (z : ℕ). sees k (hearing k g (sessionAt g i) (z % g.partitions)) w ≡ true) (sym best.1.0) best.1.1)
+        go (Some w) best e = (w, held_in g s n w (part_small L key) best.0, best.1.0, subst (λ (z : ℕ). sees k (hearing k g (session_at g i) (z % g.partitions)) w ≡ true) (sym best.1.0) best.1.1)
 
   -- a get that is answered is a get of an open session
-  pub get-open : (rule : Rule) (i key : ℕ) (o : Option Shown) → (asked rule k g (get i key)).0 ≡ Ok o → i < length g.sessions
-  get-open rule i key o =
+  pub get_open : (rule : Rule) (i key : ℕ) (o : Option Shown) → (asked rule k g (get i key)).0 ≡ Ok o → i < length g.sessions
+  get_open rule i key o =
       cond_both {A = Result (Option Shown) Refusal × GroupState} (ltb i (length g.sessions)) _ (Err NoSession, g) (λ r. r.0 ≡ Ok o → i < length g.sessions)
       (λ t e. ltb-true _ _ t) (λ _ e. let z : ◌≡◌ {A = ℕ} 0 1 = cc in absurd (omega arith))
 
@@ -185,56 +185,56 @@ module _ {k : Kind} (law : LawfulKind k) {sites : ℕ} {h : History} {g : GroupS
   ok_same e = cc
 
   -- what a get has answered is what was found
-  pub get-found : (rule : Rule) (i key : ℕ) (l : i < length g.sessions) (o : Option Shown) → (asked rule k g (get i key)).0 ≡ Ok o → shownOption (latestVisible k (hearing k g (sessionAt g i) (partitionOf g key)) key) ≡ o
-  get-found rule i key l o e = ok_same (sym (get-answer i key l rule) ∙ e)
+  pub get_found : (rule : Rule) (i key : ℕ) (l : i < length g.sessions) (o : Option Shown) → (asked rule k g (get i key)).0 ≡ Ok o → shown_option (latest_visible k (hearing k g (session_at g i) (partition_of g key)) key) ≡ o
+  get_found rule i key l o e = ok_same (sym (get_answer i key l rule) ∙ e)
 
   -- ---- puts have new names
 
   -- a done put has a stamp above its server's last one
-  put-above : (rule : Rule) → LawfulRule rule → (i key kind amount stamp : ℕ) → (asked rule k g (put i key kind amount)).0 ≡ Ok stamp →
-      (i < length g.sessions) × (last_of (g.server (sessionAt g i).site (partitionOf g key)) < stamp)
-  put-above rule clock i key kind amount stamp =
+  put_above : (rule : Rule) → LawfulRule rule → (i key kind amount stamp : ℕ) → (asked rule k g (put i key kind amount)).0 ≡ Ok stamp →
+      (i < length g.sessions) × (last_of (g.server (session_at g i).site (partition_of g key)) < stamp)
+  put_above rule clock i key kind amount stamp =
       cond_both {A = Result ℕ Refusal × GroupState} (ltb i (length g.sessions)) _ (Err NoSession, g) (λ r. r.0 ≡ Ok stamp → Good)
-      (λ e. with-worth (ltb-true _ _ e) (worthFrom kind amount)) (λ _ e. refusal e)
+      (λ e. with_worth (ltb-true _ _ e) (worth_from kind amount)) (λ _ e. refusal e)
     where
       y : SessionState
-      y = sessionAt g i
+      y = session_at g i
 
       server : ServerState
-      server = g.server y.site (partitionOf g key)
+      server = g.server y.site (partition_of g key)
 
       dep : Four
       dep = k.floor y.depends
 
       Good : Type 0
-      Good = (i < length g.sessions) × (last_of (g.server (sessionAt g i).site (partitionOf g key)) < stamp)
+      Good = (i < length g.sessions) × (last_of (g.server (session_at g i).site (partition_of g key)) < stamp)
 
       refusal : {why : Refusal} → ◌≡◌ {A = Result ℕ Refusal} (Err why) (Ok stamp) → Good
       refusal e = let z : ◌≡◌ {A = ℕ} 0 1 = cc in absurd (omega arith)
 
-      with-worth : i < length g.sessions → (w : Result Worth Refusal) → (putWorth rule k g i key y w).0 ≡ Ok stamp → Good
-      with-worth l (Err why) = λ e. refusal e
-      with-worth l (Ok value) =
-          cond_both {A = Result ℕ Refusal × ServerState} (tableFull server.held) (Err TableFull, server) _ (λ r. (putLeft k g i y key value r).0 ≡ Ok stamp → Good)
+      with_worth : i < length g.sessions → (w : Result Worth Refusal) → (put_worth rule k g i key y w).0 ≡ Ok stamp → Good
+      with_worth l (Err why) = λ e. refusal e
+      with_worth l (Ok value) =
+          cond_both {A = Result ℕ Refusal × ServerState} (table_full server.held) (Err TableFull, server) _ (λ r. (put_left k g i y key value r).0 ≡ Ok stamp → Good)
           (λ _ e. refusal e)
-          (λ _. cond_both {A = Result ℕ Refusal × ServerState} (outboxFull server.site server.sites server.waiting) (Err OutboxFull, server) _ (λ r. (putLeft k g i y key value r).0 ≡ Ok stamp → Good)
+          (λ _. cond_both {A = Result ℕ Refusal × ServerState} (outbox_full server.site server.sites server.waiting) (Err OutboxFull, server) _ (λ r. (put_left k g i y key value r).0 ≡ Ok stamp → Good)
           (λ _ e. refusal e)
           (λ _. stamped (rule (last_of server) server.reading (greatest dep))
-          (clock.allowed (last_of server) server.reading (greatest dep) (stamps-at server.marks.received server.site (v.core.marks.received-stamps y.site (partitionOf g key))) (v.frame.servers y.site (partitionOf g key)).reading
-          (let d = (floor-mark law (v.core.sessions i l).depends-mark.0).0 in omega arith))))
+          (clock.allowed (last_of server) server.reading (greatest dep) (stamps_at server.marks.received server.site (v.core.marks.received_stamps y.site (partition_of g key))) (v.frame.servers y.site (partition_of g key)).reading
+          (let d = (floor_mark law (v.core.sessions i l).depends_mark.0).0 in omega arith))))
         where
-          stamped : (r : Result ℕ Refusal) → Allowed (last_of server) (greatest dep) r → (putLeft k g i y key value (puttingAt k server key value dep (k.floor y.knows) r)).0 ≡ Ok stamp → Good
+          stamped : (r : Result ℕ Refusal) → Allowed (last_of server) (greatest dep) r → (put_left k g i y key value (putting_at k server key value dep (k.floor y.knows) r)).0 ≡ Ok stamp → Good
           stamped (Ok t) a e = let same : t ≡ stamp = ok_same e in (l, subst (λ (z : ℕ). last_of server < z) same a.0)
           stamped (Err why) a e = refusal e
 
-  pub put-new : (rule : Rule) → LawfulRule rule → (i key kind amount stamp : ℕ) (x : Worth) → (asked rule k g (put i key kind amount)).0 ≡ Ok stamp →
-      WasPut h (record { key = key; stamp = stamp; source = siteOf h i }) x → ⊥
-  put-new rule clock i key kind amount stamp x e was =
-      let a = put-above rule clock i key kind amount stamp e in
-      let s = (sessionAt g i).site in
-      let n = partitionOf g key in
-      let w = v.logged (record { key = key; stamp = stamp; source = siteOf h i }) x was in
-      let old : stamp ≤ last (λ a b. (g.server a b).marks.received) (siteOf h i) n = subst (λ (p : Put). p.stamp ≤ last (λ a b. (g.server a b).marks.received) p.source (part L p.key)) w.2 (v.core.logs.stamped w.0 w.1) in
-      let low : stamp ≤ last (λ a b. (g.server a b).marks.received) s n = subst (λ (z : ℕ). stamp ≤ last (λ a b. (g.server a b).marks.received) z n) (v.hist.sites-known i a.0) old in
-      let new : last (λ a b. (g.server a b).marks.received) s n < stamp = subst (λ (z : ℕ). at (g.server s n).marks.received z < stamp) (v.frame.servers s n).site-is a.1 in
+  pub put_new : (rule : Rule) → LawfulRule rule → (i key kind amount stamp : ℕ) (x : Worth) → (asked rule k g (put i key kind amount)).0 ≡ Ok stamp →
+      WasPut h (record { key = key; stamp = stamp; source = site_of h i }) x → ⊥
+  put_new rule clock i key kind amount stamp x e was =
+      let a = put_above rule clock i key kind amount stamp e in
+      let s = (session_at g i).site in
+      let n = partition_of g key in
+      let w = v.logged (record { key = key; stamp = stamp; source = site_of h i }) x was in
+      let old : stamp ≤ last (λ a b. (g.server a b).marks.received) (site_of h i) n = subst (λ (p : Put). p.stamp ≤ last (λ a b. (g.server a b).marks.received) p.source (part L p.key)) w.2 (v.core.logs.stamped w.0 w.1) in
+      let low : stamp ≤ last (λ a b. (g.server a b).marks.received) s n = subst (λ (z : ℕ). stamp ≤ last (λ a b. (g.server a b).marks.received) z n) (v.hist.sites_known i a.0) old in
+      let new : last (λ a b. (g.server a b).marks.received) s n < stamp = subst (λ (z : ℕ). at (g.server s n).marks.received z < stamp) (v.frame.servers s n).site_is a.1 in
       omega arith

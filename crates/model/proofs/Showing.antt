@@ -4,25 +4,25 @@ use Rattle.stamps.specs.Rows.{Four, Covers}
 use Rattle.marks.specs.Kinds.{Kind, LawfulKind}
 use Rattle.servers.specs.Laws.{In, IsLatest, Passes}
 use Rattle.servers.specs.Tables.{covered}
-use Rattle.servers.specs.Versions.{VersionState, fullMark}
+use Rattle.servers.specs.Versions.{VersionState, full_mark}
 use Rattle.model.specs.Events.{Put, AsLate, Later}
 use Rattle.model.specs.Pasts.{Pasts}
-use Rattle.model.proofs.Rows.{covers-trans, covers-true, covers-from}
+use Rattle.model.proofs.Rows.{covers_trans, covers_true, covers_from}
 use Rattle.model.proofs.Invariant.{Shape, part, Ghost, Tables, name_of, Below, StandsIn, Core}
-use Rattle.model.proofs.Seeing.{had-below}
+use Rattle.model.proofs.Seeing.{had_below}
 
-pub as-late-self : (p : Put) → AsLate p p
-as-late-self p = (omega arith, λ s. omega arith)
+pub as_late_self : (p : Put) → AsLate p p
+as_late_self p = (omega arith, λ s. omega arith)
 
-pub as-late-trans : (p q r : Put) → AsLate p q → AsLate q r → AsLate p r
-as-late-trans p q r a b = (omega arith, λ s. omega (arith, a.1, b.1))
+pub as_late_trans : (p q r : Put) → AsLate p q → AsLate q r → AsLate p r
+as_late_trans p q r a b = (omega arith, λ s. omega (arith, a.1, b.1))
 
-pub later-as-late : (p q : Put) → Later p q → AsLate p q
-later-as-late p q l = (l.0, λ s. let h = l.1 s in omega arith)
+pub later_as_late : (p q : Put) → Later p q → AsLate p q
+later_as_late p q l = (l.0, λ s. let h = l.1 s in omega arith)
 
 -- two puts of which neither is later have one stamp and one source
-pub same-time : (p q : Put) → AsLate p q → AsLate q p → (p.stamp ≡ q.stamp) × (p.source ≡ q.source)
-same-time p q a b =
+pub same_time : (p q : Put) → AsLate p q → AsLate q p → (p.stamp ≡ q.stamp) × (p.source ≡ q.source)
+same_time p q a b =
     let e : q.stamp ≡ p.stamp = omega arith in
     let l = a.1 e in
     let m = b.1 (sym e) in
@@ -30,53 +30,53 @@ same-time p q a b =
 
 -- o is the latest version of a key in the log that m covers
 abbrev pub Best : Kind → List VersionState → Four → ℕ → Option VersionState → Type 0
-Best k log m key None = (v : VersionState) → In v log → v.key ≡ key → Covers m (fullMark k v) → ⊥
+Best k log m key None = (v : VersionState) → In v log → v.key ≡ key → Covers m (full_mark k v) → ⊥
 Best k log m key (Some w) =
-    In w log × (w.key ≡ key) × Covers m (fullMark k w) × ((v : VersionState) → In v log → v.key ≡ key → Covers m (fullMark k v) → AsLate (name_of w) (name_of v))
+    In w log × (w.key ≡ key) × Covers m (full_mark k w) × ((v : VersionState) → In v log → v.key ≡ key → Covers m (full_mark k v) → AsLate (name_of w) (name_of v))
 
 -- the log has one latest version
-pub best-same : (k : Kind) (log : List VersionState) (m : Four) (key : ℕ) → ((v w : VersionState) → In v log → In w log → name_of v ≡ name_of w → v ≡ w) →
+pub best_same : (k : Kind) (log : List VersionState) (m : Four) (key : ℕ) → ((v w : VersionState) → In v log → In w log → name_of v ≡ name_of w → v ≡ w) →
     (o p : Option VersionState) → Best k log m key o → Best k log m key p → o ≡ p
-best-same k log m key unique None None b c = refl
-best-same k log m key unique None (Some w) b c = absurd (b w c.0 c.1 c.2)
-best-same k log m key unique (Some v) None b c = absurd (c v b.0 b.1 b.2)
-best-same k log m key unique (Some v) (Some w) b c =
-    let t = same-time (name_of v) (name_of w) (b.3 w c.0 c.1 c.2) (c.3 v b.0 b.1 b.2) in
+best_same k log m key unique None None b c = refl
+best_same k log m key unique None (Some w) b c = absurd (b w c.0 c.1 c.2)
+best_same k log m key unique (Some v) None b c = absurd (c v b.0 b.1 b.2)
+best_same k log m key unique (Some v) (Some w) b c =
+    let t = same_time (name_of v) (name_of w) (b.3 w c.0 c.1 c.2) (c.3 v b.0 b.1 b.2) in
     let e : v.key ≡ w.key = b.1 ∙ sym c.1 in
     ap Some (unique v w b.0 c.0 (λ i. record { key = e i; stamp = t.0 i; source = t.1 i }))
 
 -- a version and what stands in for it
-pub stands-late : {k : Kind} {vs : List VersionState} {safe : Four} {v : VersionState} (x : StandsIn k vs safe v) → AsLate (name_of x.other) (name_of v)
-stands-late {k} {vs} {safe} {v} x = go x.how
+pub stands_late : {k : Kind} {vs : List VersionState} {safe : Four} {v : VersionState} (x : StandsIn k vs safe v) → AsLate (name_of x.other) (name_of v)
+stands_late {k} {vs} {safe} {v} x = go x.how
   where
-    go : (x.other ≡ v) ⊎ (Later (name_of x.other) (name_of v) × Covers safe (fullMark k x.other)) → AsLate (name_of x.other) (name_of v)
-    go (inl e) = subst (λ (u : VersionState). AsLate (name_of u) (name_of v)) (sym e) (as-late-self (name_of v))
-    go (inr (l, _)) = later-as-late (name_of x.other) (name_of v) l
+    go : (x.other ≡ v) ⊎ (Later (name_of x.other) (name_of v) × Covers safe (full_mark k x.other)) → AsLate (name_of x.other) (name_of v)
+    go (inl e) = subst (λ (u : VersionState). AsLate (name_of u) (name_of v)) (sym e) (as_late_self (name_of v))
+    go (inr (l, _)) = later_as_late (name_of x.other) (name_of v) l
 
 module _ {k : Kind} (law : LawfulKind k) (L : Shape) {P : Pasts} {T : Tables} {G : Ghost} (h : Core k L P T G) (m : Four) (s key : ℕ)
     (ls : s < L.sites) (b : Below L T.received s m) (over : Covers m (T.safe s)) where
   -- whatever the cut covers is held, or a later one that the cut covers is
-  cut_holds : (v : VersionState) → In v G.log → v.key ≡ key → Covers m (fullMark k v) →
+  cut_holds : (v : VersionState) → In v G.log → v.key ≡ key → Covers m (full_mark k v) →
       (w : VersionState) × In w (T.held s (part L key)) × Passes (covered k m) key w × AsLate (name_of w) (name_of v)
   cut_holds v i e c = (
     x.other,
     subst (λ (z : ℕ). In x.other (T.held s (part L z))) e x.there,
-    (x.same_key ∙ e, covers-from m (fullMark k x.other) (cov x.how)),
-    stands-late x,
+    (x.same_key ∙ e, covers_from m (full_mark k x.other) (cov x.how)),
+    stands_late x,
   )
     where
       x : StandsIn k (T.held s (part L v.key)) (T.safe s) v
-      x = h.holds.kept v s ls i (had-below law L T.received s m v (h.logs.source v i) (h.logs.small v i) b c)
+      x = h.holds.kept v s ls i (had_below law L T.received s m v (h.logs.source v i) (h.logs.small v i) b c)
 
-      cov : (x.other ≡ v) ⊎ (Later (name_of x.other) (name_of v) × Covers (T.safe s) (fullMark k x.other)) → Covers m (fullMark k x.other)
-      cov (inl same) = subst (λ (u : VersionState). Covers m (fullMark k u)) (sym same) c
-      cov (inr (_, d)) = covers-trans over d
+      cov : (x.other ≡ v) ⊎ (Later (name_of x.other) (name_of v) × Covers (T.safe s) (full_mark k x.other)) → Covers m (full_mark k x.other)
+      cov (inl same) = subst (λ (u : VersionState). Covers m (full_mark k u)) (sym same) c
+      cov (inr (_, d)) = covers_trans over d
 
-  pub best-read : (o : Option VersionState) → IsLatest (covered k m) key (T.held s (part L key)) o → Best k G.log m key o
-  best-read None best = λ v i e c. let w = cut_holds v i e c in best w.0 w.1 w.2
-  best-read (Some u) best = (
+  pub best_read : (o : Option VersionState) → IsLatest (covered k m) key (T.held s (part L key)) o → Best k G.log m key o
+  best_read None best = λ v i e c. let w = cut_holds v i e c in best w.0 w.1 w.2
+  best_read (Some u) best = (
     (h.holds.had u s (part L key) best.0).0,
     best.1.0,
-    covers-true m (fullMark k u) best.1.1,
-    λ v i e c. let w = cut_holds v i e c in as-late-trans (name_of u) (name_of w.0) (name_of v) (best.2 w.0 w.1 w.2) w.3,
+    covers_true m (full_mark k u) best.1.1,
+    λ v i e c. let w = cut_holds v i e c in as_late_trans (name_of u) (name_of w.0) (name_of v) (best.2 w.0 w.1 w.2) w.3,
   )

@@ -4,46 +4,46 @@ use Rattle.stamps.specs.Clocks.{LawfulRule}
 use Rattle.marks.specs.Kinds.{Kind, LawfulKind}
 use Rattle.servers.specs.Servers.{Rule}
 use Rattle.model.specs.Groups.{made}
-use Rattle.model.specs.GroupStore.{GroupKeepsPromises, groupStore, held_at}
+use Rattle.model.specs.GroupStore.{GroupKeepsPromises, group_store, held_at}
 use Rattle.model.specs.Promises.{Promises, ShowsAsLate}
 use Rattle.model.specs.Stores.{Run, history}
 use Rattle.servers.specs.Laws.{In}
 use Rattle.model.proofs.Invariant.{Ghost}
 use Rattle.model.proofs.Histories.{Inv}
-use Rattle.model.proofs.Runs.{begins, noGhost, ran}
-use Rattle.model.proofs.SessionLines.{put-later, get-answer, shows-past, shows-put, none_seen, some-seen, get-open, get-found, put-new}
-use Rattle.model.proofs.SnapshotLines.{read-honest, stays, whole}
+use Rattle.model.proofs.Runs.{begins, no_ghost, ran}
+use Rattle.model.proofs.SessionLines.{put_later, get_answer, shows_past, shows_put, none_seen, some_seen, get_open, get_found, put_new}
+use Rattle.model.proofs.SnapshotLines.{read_honest, stays, whole}
 use Rattle.model.proofs.Agreement.{agree}
 use Rattle.model.proofs.Ranges.{bounded}
 
 -- the promises after a run whose state has the invariant
-promises : {k : Kind} (law : LawfulKind k) (rule : Rule) (clock : LawfulRule rule) (sites : ℕ) (r : Run (groupStore rule k sites)) (G : Ghost) →
-    Inv k sites (history (groupStore rule k sites) r) r.state G → Promises (groupStore rule k sites) r
+promises : {k : Kind} (law : LawfulKind k) (rule : Rule) (clock : LawfulRule rule) (sites : ℕ) (r : Run (group_store rule k sites)) (G : Ghost) →
+    Inv k sites (history (group_store rule k sites) r) r.state G → Promises (group_store rule k sites) r
 promises {k} law rule clock sites r G v = record {
-  put-later = λ p q past _. put-later law v p q past;
-  get-shows-past = λ i p past.
-      let l = v.core.pasts.open-only i p past in
-      subst (λ a. ShowsAsLate p.key a p) (sym (get-answer law v i p.key l rule)) (shows-past law v i p.key l p refl past);
-  snapshot-stays = stays law rule clock sites r G v;
-  snapshot-whole = whole law v;
-  sites-agree = λ quiet s t key ls lt a b. agree v quiet s t key (inside ls) (inside lt) a b;
-  put-new = put-new law v rule clock;
-  get-honest = λ i key u e. let l = get-open law v rule i key (Some u) e in shows-put law v i key l u (get-found law v rule i key l (Some u) e);
-  read-honest = read-honest law v rule;
+  put_later = λ p q past _. put_later law v p q past;
+  get_shows_past = λ i p past.
+      let l = v.core.pasts.open_only i p past in
+      subst (λ a. ShowsAsLate p.key a p) (sym (get_answer law v i p.key l rule)) (shows_past law v i p.key l p refl past);
+  snapshot_stays = stays law rule clock sites r G v;
+  snapshot_whole = whole law v;
+  sites_agree = λ quiet s t key ls lt a b. agree v quiet s t key (inside ls) (inside lt) a b;
+  put_new = put_new law v rule clock;
+  get_honest = λ i key u e. let l = get_open law v rule i key (Some u) e in shows_put law v i key l u (get_found law v rule i key l (Some u) e);
+  read_honest = read_honest law v rule;
   get_none = λ i key e w held.
-      let l = get-open law v rule i key None e in
-      none_seen law v i key l (get-found law v rule i key l None e) w (subst (λ (z : ℕ). In w (held_at r.state z)) (v.hist.sites-known i l) held);
-  get-some = λ i key u e.
-      let l = get-open law v rule i key (Some u) e in
-      let s = some-seen law v i key l u (get-found law v rule i key l (Some u) e) in
-      (s.0, subst (λ (z : ℕ). In s.0 (held_at r.state z)) (sym (v.hist.sites-known i l)) s.1, s.2, s.3);
+      let l = get_open law v rule i key None e in
+      none_seen law v i key l (get_found law v rule i key l None e) w (subst (λ (z : ℕ). In w (held_at r.state z)) (v.hist.sites_known i l) held);
+  get_some = λ i key u e.
+      let l = get_open law v rule i key (Some u) e in
+      let s = some_seen law v i key l u (get_found law v rule i key l (Some u) e) in
+      (s.0, subst (λ (z : ℕ). In s.0 (held_at r.state z)) (sym (v.hist.sites_known i l)) s.1, s.2, s.3);
   bounded = bounded v;
 }
   where
     inside : {s : ℕ} → s < sites → s < r.state.sites
     inside {s} l = subst (λ (z : ℕ). s < z) (sym v.layout) l
 
-pub keeps-promises : {k : Kind} → LawfulKind k → (rule : Rule) → LawfulRule rule → (sites partitions : ℕ) → sites ≤ 4 → 1 ≤ partitions → GroupKeepsPromises rule k sites partitions
-keeps-promises law rule clock sites partitions four some calls =
-    let end = ran law rule clock sites (record { events = []; state = made sites partitions }) noGhost (begins law sites partitions four some) calls in
+pub keeps_promises : {k : Kind} → LawfulKind k → (rule : Rule) → LawfulRule rule → (sites partitions : ℕ) → sites ≤ 4 → 1 ≤ partitions → GroupKeepsPromises rule k sites partitions
+keeps_promises law rule clock sites partitions four some calls =
+    let end = ran law rule clock sites (record { events = []; state = made sites partitions }) no_ghost (begins law sites partitions four some) calls in
     promises law rule clock sites _ end.ghost end.inv

@@ -7,32 +7,32 @@ use Rattle.marks.specs.Kinds.{Kind}
 use Rattle.servers.specs.Entries.{Sent}
 use Rattle.servers.specs.Servers.{ServerState}
 use Rattle.servers.specs.Versions.{VersionState}
-use Rattle.model.specs.Calls.{safeMark}
-use Rattle.model.specs.Groups.{GroupState, SessionState, SeatState, newSession, sessionAt, seatAt, withServer, withSessions, withSession, withSeat, lowestFree}
-use Rattle.model.proofs.Lists.{set1, set2, set1-cases, set1-here, set2-field, get_d_set, get_d_push}
+use Rattle.model.specs.Calls.{safe_mark}
+use Rattle.model.specs.Groups.{GroupState, SessionState, SeatState, new_session, session_at, seat_at, with_server, with_sessions, with_session, with_seat, lowest_free}
+use Rattle.model.proofs.Lists.{set1, set2, set1_cases, set1_here, set2_field, get_d_set, get_d_push}
 use Rattle.model.proofs.Invariant.{Tables, tables}
 
 module _ (k : Kind) (g : GroupState) where
   -- one server replaced: the fields of its place change
-  pub tables-server : (s n : ℕ) (x : ServerState) {held : ℕ → ℕ → List VersionState} {received reported stable : ℕ → ℕ → Four} {waits : ℕ → ℕ → ℕ → List Sent} →
+  pub tables_server : (s n : ℕ) (x : ServerState) {held : ℕ → ℕ → List VersionState} {received reported stable : ℕ → ℕ → Four} {waits : ℕ → ℕ → ℕ → List Sent} →
       set2 (λ i m. (g.server i m).held) s n x.held ≡ held →
       set2 (λ i m. (g.server i m).marks.received) s n x.marks.received ≡ received →
       set2 (λ i m. (g.server i m).marks.reported) s n x.marks.reported ≡ reported →
       set2 (λ i m. (g.server i m).marks.stable) s n x.marks.stable ≡ stable →
       set2 (λ i m. (g.server i m).waiting) s n x.waiting ≡ waits →
-      tables k (withServer g s n x)
-      ≡ record { held = held; received = received; reported = reported; stable = stable; waits = waits; opened = length g.sessions; session = sessionAt g; seat = seatAt g; next = g.nextSerial; safe = safeMark k (withServer g s n x) }
-  tables-server s n x a b c d e i = record {
-    held = (set2-field (λ (y : ServerState). y.held) g.server s n x ∙ a) i;
-    received = (set2-field (λ (y : ServerState). y.marks.received) g.server s n x ∙ b) i;
-    reported = (set2-field (λ (y : ServerState). y.marks.reported) g.server s n x ∙ c) i;
-    stable = (set2-field (λ (y : ServerState). y.marks.stable) g.server s n x ∙ d) i;
-    waits = (set2-field (λ (y : ServerState). y.waiting) g.server s n x ∙ e) i;
+      tables k (with_server g s n x)
+      ≡ record { held = held; received = received; reported = reported; stable = stable; waits = waits; opened = length g.sessions; session = session_at g; seat = seat_at g; next = g.next_serial; safe = safe_mark k (with_server g s n x) }
+  tables_server s n x a b c d e i = record {
+    held = (set2_field (λ (y : ServerState). y.held) g.server s n x ∙ a) i;
+    received = (set2_field (λ (y : ServerState). y.marks.received) g.server s n x ∙ b) i;
+    reported = (set2_field (λ (y : ServerState). y.marks.reported) g.server s n x ∙ c) i;
+    stable = (set2_field (λ (y : ServerState). y.marks.stable) g.server s n x ∙ d) i;
+    waits = (set2_field (λ (y : ServerState). y.waiting) g.server s n x ∙ e) i;
     opened = length g.sessions;
-    session = sessionAt g;
-    seat = seatAt g;
-    next = g.nextSerial;
-    safe = safeMark k (withServer g s n x);
+    session = session_at g;
+    seat = seat_at g;
+    next = g.next_serial;
+    safe = safe_mark k (with_server g s n x);
   }
 
   abbrev others : ℕ → (ℕ → SessionState) → (ℕ → Option SeatState) → ℕ → (ℕ → Four) → Tables
@@ -49,39 +49,39 @@ module _ (k : Kind) (g : GroupState) where
     safe = safe;
   }
 
-  pub tables-session : (i : ℕ) (x : SessionState) → i < length g.sessions →
-      tables k (withSession g i x) ≡ others (length g.sessions) (set1 (sessionAt g) i x) (seatAt g) g.nextSerial (safeMark k (withSession g i x))
-  tables-session i x l j =
-      others (length-set g.sessions i x j) (get_d_set g.sessions i x (newSession 0) l j) (seatAt g) g.nextSerial (safeMark k (withSession g i x))
+  pub tables_session : (i : ℕ) (x : SessionState) → i < length g.sessions →
+      tables k (with_session g i x) ≡ others (length g.sessions) (set1 (session_at g) i x) (seat_at g) g.next_serial (safe_mark k (with_session g i x))
+  tables_session i x l j =
+      others (length-set g.sessions i x j) (get_d_set g.sessions i x (new_session 0) l j) (seat_at g) g.next_serial (safe_mark k (with_session g i x))
 
-  pub tables-enrol : (x : SessionState) →
-      tables k (withSessions g (g.sessions ++ (x ∷ []))) ≡ others (suc (length g.sessions)) (set1 (sessionAt g) (length g.sessions) x) (seatAt g) g.nextSerial (safeMark k (withSessions g (g.sessions ++ (x ∷ []))))
-  tables-enrol x j =
-      others ((length-append g.sessions (x ∷ []) ∙ add-one (length g.sessions)) j) (get_d_push g.sessions x (newSession 0) j) (seatAt g) g.nextSerial (safeMark k (withSessions g (g.sessions ++ (x ∷ []))))
+  pub tables_enrol : (x : SessionState) →
+      tables k (with_sessions g (g.sessions ++ (x ∷ []))) ≡ others (suc (length g.sessions)) (set1 (session_at g) (length g.sessions) x) (seat_at g) g.next_serial (safe_mark k (with_sessions g (g.sessions ++ (x ∷ []))))
+  tables_enrol x j =
+      others ((length-append g.sessions (x ∷ []) ∙ add-one (length g.sessions)) j) (get_d_push g.sessions x (new_session 0) j) (seat_at g) g.next_serial (safe_mark k (with_sessions g (g.sessions ++ (x ∷ []))))
 
-  pub tables-seat : (a : ℕ) (y : Option SeatState) (next : ℕ) → a < length g.seats →
-      tables k (withSeat g a y next) ≡ others (length g.sessions) (sessionAt g) (set1 (seatAt g) a y) next (safeMark k (withSeat g a y next))
-  tables-seat a y next l j = others (length g.sessions) (sessionAt g) (get_d_set g.seats a y None l j) next (safeMark k (withSeat g a y next))
+  pub tables_seat : (a : ℕ) (y : Option SeatState) (next : ℕ) → a < length g.seats →
+      tables k (with_seat g a y next) ≡ others (length g.sessions) (session_at g) (set1 (seat_at g) a y) next (safe_mark k (with_seat g a y next))
+  tables_seat a y next l j = others (length g.sessions) (session_at g) (get_d_set g.seats a y None l j) next (safe_mark k (with_seat g a y next))
 
 -- ---- sessions and seats
 
-pub session-here : (g : GroupState) (i : ℕ) (x : SessionState) → i < length g.sessions → sessionAt (withSession g i x) i ≡ x
-session-here g i x l = ap (λ (f : ℕ → SessionState). f i) (get_d_set g.sessions i x (newSession 0) l) ∙ set1-here (sessionAt g) i x
+pub session_here : (g : GroupState) (i : ℕ) (x : SessionState) → i < length g.sessions → session_at (with_session g i x) i ≡ x
+session_here g i x l = ap (λ (f : ℕ → SessionState). f i) (get_d_set g.sessions i x (new_session 0) l) ∙ set1_here (session_at g) i x
 
 -- a session that stays at its site leaves all sessions at theirs
-pub session-sites : (g : GroupState) (i : ℕ) (x : SessionState) → i < length g.sessions → x.site ≡ (sessionAt g i).site → (j : ℕ) → (sessionAt (withSession g i x) j).site ≡ (sessionAt g j).site
-session-sites g i x l e j = ap (λ (f : ℕ → SessionState). (f j).site) (get_d_set g.sessions i x (newSession 0) l)
-    ∙ set1-cases (sessionAt g) i x j (λ y. y.site ≡ (sessionAt g j).site) (λ d. e ∙ ap (λ (z : ℕ). (sessionAt g z).site) (sym d)) (λ _. refl)
+pub session_sites : (g : GroupState) (i : ℕ) (x : SessionState) → i < length g.sessions → x.site ≡ (session_at g i).site → (j : ℕ) → (session_at (with_session g i x) j).site ≡ (session_at g j).site
+session_sites g i x l e j = ap (λ (f : ℕ → SessionState). (f j).site) (get_d_set g.sessions i x (new_session 0) l)
+    ∙ set1_cases (session_at g) i x j (λ y. y.site ≡ (session_at g j).site) (λ d. e ∙ ap (λ (z : ℕ). (session_at g z).site) (sym d)) (λ _. refl)
 
-none-some : {A : Type 0} {x : A} → ◌≡◌ {A = Option A} None (Some x) → ⊥
-none-some e = let z : ◌≡◌ {A = ℕ} 0 1 = cc in omega arith
+none_some : {A : Type 0} {x : A} → ◌≡◌ {A = Option A} None (Some x) → ⊥
+none_some e = let z : ◌≡◌ {A = ℕ} 0 1 = cc in omega arith
 
 -- an open seat is one of the seats
-pub seat-inside : (ys : List (Option SeatState)) (a : ℕ) (y : SeatState) → get_or ys a None ≡ Some y → a < length ys
-seat-inside ys a y e = ⊎_elim (λ l. l) (λ past. absurd (none-some (sym (get_or_past ys a None past) ∙ e))) (cases_lt a (length ys))
+pub seat_inside : (ys : List (Option SeatState)) (a : ℕ) (y : SeatState) → get_or ys a None ≡ Some y → a < length ys
+seat_inside ys a y e = ⊎_elim (λ l. l) (λ past. absurd (none_some (sym (get_or_past ys a None past) ∙ e))) (cases_lt a (length ys))
 
 -- the lowest free seat is free
-pub lowest-free : (ys : List (Option SeatState)) → get_or ys (lowestFree ys) None ≡ None
-lowest-free [] = refl
-lowest-free (None ∷ ys) = refl
-lowest-free (Some y ∷ ys) = lowest-free ys
+pub lowest_free_lem : (ys : List (Option SeatState)) → get_or ys (lowest_free ys) None ≡ None
+lowest_free_lem [] = refl
+lowest_free_lem (None ∷ ys) = refl
+lowest_free_lem (Some y ∷ ys) = lowest_free_lem ys

@@ -5,75 +5,75 @@ use Rattle.stamps.specs.declared.refusal.Refusal.TheVariants.{NotInLayout, NoSes
 use Rattle.stamps.specs.Rows.{Four, join}
 use Rattle.marks.specs.Kinds.{Kind}
 use Rattle.servers.specs.Entries.{Sent}
-use Rattle.servers.specs.Outboxes.{nextFor}
-use Rattle.servers.specs.Servers.{Rule, ServerState, told, beaten, putting, putVersion, handing, taking, leadOf, raised, reporting, latestVisible, latestCovered, tidiedUp}
-use Rattle.servers.specs.Values.{Worth, worthFrom}
-use Rattle.servers.specs.Versions.{VersionState, fullMark}
-use Rattle.model.specs.Events.{Done, Shown, Ticket, Call, openSession, tell, put, get, heartbeat, deliver, report, stabilise, openSnapshot, read, close, tidy, lead, Answer}
-use Rattle.marks.specs.CommonFloors.{commonFloor}
-use Rattle.model.specs.Groups.{GroupState, SessionState, SeatState, newSession, partitionOf, sessionAt, seatAt, withServer, withSessions, withSession, withSeat, lowestFree, reportedAt, stableAt, cutsAt}
+use Rattle.servers.specs.Outboxes.{next_for}
+use Rattle.servers.specs.Servers.{Rule, ServerState, told, beaten, putting, put_version, handing, taking, lead_of, raised, reporting, latest_visible, latest_covered, tidied_up}
+use Rattle.servers.specs.Values.{Worth, worth_from}
+use Rattle.servers.specs.Versions.{VersionState, full_mark}
+use Rattle.model.specs.Events.{Done, Shown, Ticket, Call, open_session, tell, put, get, heartbeat, deliver, report, stabilise, open_snapshot, read, close, tidy, lead, Answer}
+use Rattle.marks.specs.CommonFloors.{common_floor}
+use Rattle.model.specs.Groups.{GroupState, SessionState, SeatState, new_session, partition_of, session_at, seat_at, with_server, with_sessions, with_session, with_seat, lowest_free, reported_at, stable_at, cuts_at}
 
 -- every site has every partition, and such a pair is a server
-abbrev pub hasServer : GroupState → ℕ → ℕ → Bool
-hasServer g site partition = nat_lt site g.sites && nat_lt partition g.partitions
+abbrev pub has_server : GroupState → ℕ → ℕ → Bool
+has_server g site partition = nat_lt site g.sites && nat_lt partition g.partitions
 
 -- what a server has answered and left, as the group's; a refusal leaves the group as it was
-abbrev pub serverLeft : {A : Type 0} → GroupState → ℕ → ℕ → Result A Refusal × ServerState → Result A Refusal × GroupState
-serverLeft g site partition (Ok x, s) = (Ok x, withServer g site partition s)
-serverLeft g site partition (Err why, s) = (Err why, g)
+abbrev pub server_left : {A : Type 0} → GroupState → ℕ → ℕ → Result A Refusal × ServerState → Result A Refusal × GroupState
+server_left g site partition (Ok x, s) = (Ok x, with_server g site partition s)
+server_left g site partition (Err why, s) = (Err why, g)
 
 -- a call of one server: refused if the layout lacks it
-abbrev pub onServer : {A : Type 0} → GroupState → ℕ → ℕ → (ServerState → Result A Refusal × ServerState) → Result A Refusal × GroupState
-onServer g site partition act =
-    cond (hasServer g site partition) (serverLeft g site partition (act (g.server site partition))) (Err NotInLayout, g)
+abbrev pub on_server : {A : Type 0} → GroupState → ℕ → ℕ → (ServerState → Result A Refusal × ServerState) → Result A Refusal × GroupState
+on_server g site partition act =
+    cond (has_server g site partition) (server_left g site partition (act (g.server site partition))) (Err NotInLayout, g)
 
 -- the same, of what is never refused
-abbrev pub changeServer : GroupState → ℕ → ℕ → (ServerState → ServerState) → Result Done Refusal × GroupState
-changeServer g site partition change = onServer g site partition (λ s. (Ok tt, change s))
+abbrev pub change_server : GroupState → ℕ → ℕ → (ServerState → ServerState) → Result Done Refusal × GroupState
+change_server g site partition change = on_server g site partition (λ s. (Ok tt, change s))
 
 -- a call of a session: refused if it was not opened
-abbrev pub onSession : {A : Type 0} → GroupState → ℕ → (SessionState → Result A Refusal × GroupState) → Result A Refusal × GroupState
-onSession g i act = cond (nat_lt i (length g.sessions)) (act (sessionAt g i)) (Err NoSession, g)
+abbrev pub on_session : {A : Type 0} → GroupState → ℕ → (SessionState → Result A Refusal × GroupState) → Result A Refusal × GroupState
+on_session g i act = cond (nat_lt i (length g.sessions)) (act (session_at g i)) (Err NoSession, g)
 
 -- a call of an open snapshot: refused if its seat is not open under its serial number
-abbrev pub onSeatOf : {A : Type 0} → GroupState → ℕ → Option SeatState → (SeatState → Result A Refusal × GroupState) → Result A Refusal × GroupState
-onSeatOf g serial None act = (Err NotOpen, g)
-onSeatOf g serial (Some y) act = cond (y.serial == serial) (act y) (Err NotOpen, g)
+abbrev pub on_seat_of : {A : Type 0} → GroupState → ℕ → Option SeatState → (SeatState → Result A Refusal × GroupState) → Result A Refusal × GroupState
+on_seat_of g serial None act = (Err NotOpen, g)
+on_seat_of g serial (Some y) act = cond (y.serial == serial) (act y) (Err NotOpen, g)
 
-abbrev pub onSeat : {A : Type 0} → GroupState → Ticket → (SeatState → Result A Refusal × GroupState) → Result A Refusal × GroupState
-onSeat g ticket act = onSeatOf g ticket.serial (seatAt g ticket.seat) act
+abbrev pub on_seat : {A : Type 0} → GroupState → Ticket → (SeatState → Result A Refusal × GroupState) → Result A Refusal × GroupState
+on_seat g ticket act = on_seat_of g ticket.serial (seat_at g ticket.seat) act
 
 -- open session
-abbrev pub openedSession : GroupState → ℕ → Result ℕ Refusal × GroupState
-openedSession g site =
+abbrev pub opened_session : GroupState → ℕ → Result ℕ Refusal × GroupState
+opened_session g site =
     cond (nat_lt site g.sites)
-    (cond (nat_le 8 (length g.sessions)) (Err NoneFree, g) (Ok (length g.sessions), withSessions g (g.sessions ++ (newSession site ∷ []))))
+    (cond (nat_le 8 (length g.sessions)) (Err NoneFree, g) (Ok (length g.sessions), with_sessions g (g.sessions ++ (new_session site ∷ []))))
     (Err NotInLayout, g)
 
 -- put: the session depends from then on on the new version
 abbrev pub depending : Kind → SessionState → Four → SessionState
 depending k x depends = record { site = x.site; depends = depends; knows = x.knows }
 
-abbrev pub putLeft : Kind → GroupState → ℕ → SessionState → ℕ → Worth → Result ℕ Refusal × ServerState → Result ℕ Refusal × GroupState
-putLeft k g i x key value (Err why, s) = (Err why, g)
-putLeft k g i x key value (Ok stamp, s) =
-    let v = putVersion (g.server x.site (partitionOf g key)) key value (k.floor x.depends) stamp in
-    (Ok stamp, withSession (withServer g x.site (partitionOf g key) s) i (depending k x (fullMark k v)))
+abbrev pub put_left : Kind → GroupState → ℕ → SessionState → ℕ → Worth → Result ℕ Refusal × ServerState → Result ℕ Refusal × GroupState
+put_left k g i x key value (Err why, s) = (Err why, g)
+put_left k g i x key value (Ok stamp, s) =
+    let v = put_version (g.server x.site (partition_of g key)) key value (k.floor x.depends) stamp in
+    (Ok stamp, with_session (with_server g x.site (partition_of g key) s) i (depending k x (full_mark k v)))
 
-abbrev pub putWorth : Rule → Kind → GroupState → ℕ → ℕ → SessionState → Result Worth Refusal → Result ℕ Refusal × GroupState
-putWorth rule k g i key x (Err why) = (Err why, g)
-putWorth rule k g i key x (Ok value) =
-    putLeft k g i x key value (putting rule k (g.server x.site (partitionOf g key)) key value (k.floor x.depends) (k.floor x.knows))
+abbrev pub put_worth : Rule → Kind → GroupState → ℕ → ℕ → SessionState → Result Worth Refusal → Result ℕ Refusal × GroupState
+put_worth rule k g i key x (Err why) = (Err why, g)
+put_worth rule k g i key x (Ok value) =
+    put_left k g i x key value (putting rule k (g.server x.site (partition_of g key)) key value (k.floor x.depends) (k.floor x.knows))
 
 -- a session was shown a version, or none: it depends on the version from then on
-abbrev pub shownOf : VersionState → Shown
-shownOf v = record { value = v.value; stamp = v.stamp; source = v.source }
+abbrev pub shown_of : VersionState → Shown
+shown_of v = record { value = v.value; stamp = v.stamp; source = v.source }
 
 abbrev pub showing : Kind → GroupState → ℕ → Option VersionState → Result (Option Shown) Refusal × GroupState
 showing k g i None = (Ok None, g)
 showing k g i (Some v) =
-    let x = sessionAt g i in
-    (Ok (Some (shownOf v)), withSession g i (depending k x (join (k.floor x.depends) (fullMark k v))))
+    let x = session_at g i in
+    (Ok (Some (shown_of v)), with_session g i (depending k x (join (k.floor x.depends) (full_mark k v))))
 
 -- a session's server hears what the session knows, and the session knows its stable mark from then on
 abbrev pub hearing : Kind → GroupState → SessionState → ℕ → ServerState
@@ -82,54 +82,54 @@ hearing k g x partition = raised k (g.server x.site partition) (k.floor x.knows)
 abbrev pub learning : Kind → GroupState → ℕ → SessionState → ℕ → GroupState
 learning k g i x partition =
     let s = hearing k g x partition in
-    withSession (withServer g x.site partition s) i (record { site = x.site; depends = x.depends; knows = s.marks.stable })
+    with_session (with_server g x.site partition s) i (record { site = x.site; depends = x.depends; knows = s.marks.stable })
 
 -- open snapshot: the seat is the lowest free one
-abbrev pub snapshotOpenedAt : Kind → GroupState → ℕ → SessionState → ℕ → ℕ → Result Ticket Refusal × GroupState
-snapshotOpenedAt k g i x partition seat =
+abbrev pub snapshot_opened_at : Kind → GroupState → ℕ → SessionState → ℕ → ℕ → Result Ticket Refusal × GroupState
+snapshot_opened_at k g i x partition seat =
     cond (nat_le 4 seat) (Err NoneFree, g)
-    (cond (nat_le (2 ^ 32 - 1) g.nextSerial) (Err End, g) (
-      Ok (record { seat = seat; serial = g.nextSerial }),
-      withSeat (learning k g i x partition) seat (Some (record { session = i; serial = g.nextSerial; cut = (hearing k g x partition).marks.stable })) (suc g.nextSerial),
+    (cond (nat_le (2 ^ 32 - 1) g.next_serial) (Err End, g) (
+      Ok (record { seat = seat; serial = g.next_serial }),
+      with_seat (learning k g i x partition) seat (Some (record { session = i; serial = g.next_serial; cut = (hearing k g x partition).marks.stable })) (suc g.next_serial),
     ))
 
 -- deliver: the next entry that waits, if there is one, is taken, and then it is taken out of the outbox
-abbrev pub tookLeft : GroupState → ℕ → ℕ → ℕ → Result Done Refusal × ServerState → Result Done Refusal × GroupState
-tookLeft g from to partition (Err why, s) = (Err why, g)
-tookLeft g from to partition (Ok done, s) =
-    (Ok done, withServer (withServer g to partition s) from partition (handing (g.server from partition) to))
+abbrev pub took_left : GroupState → ℕ → ℕ → ℕ → Result Done Refusal × ServerState → Result Done Refusal × GroupState
+took_left g from to partition (Err why, s) = (Err why, g)
+took_left g from to partition (Ok done, s) =
+    (Ok done, with_server (with_server g to partition s) from partition (handing (g.server from partition) to))
 
 abbrev pub delivered : GroupState → ℕ → ℕ → ℕ → Option Sent → Result Done Refusal × GroupState
 delivered g from to partition None = (Err NothingWaits, g)
-delivered g from to partition (Some e) = tookLeft g from to partition (taking (g.server to partition) from e)
+delivered g from to partition (Some e) = took_left g from to partition (taking (g.server to partition) from e)
 
 -- tidy: what no snapshot of the site, open or yet to be opened, can need is dropped
-abbrev pub safeMark : Kind → GroupState → ℕ → Four
-safeMark k g site = commonFloor k (stableAt g site ++ cutsAt g site)
+abbrev pub safe_mark : Kind → GroupState → ℕ → Four
+safe_mark k g site = common_floor k (stable_at g site ++ cuts_at g site)
 
 abbrev pub counted : {A : Type 0} → A × ServerState → Result A Refusal × ServerState
 counted (n, s) = (Ok n, s)
 
 abbrev pub asked : Rule → Kind → GroupState → (call : Call) → Answer call × GroupState
-asked rule k g (openSession site) = openedSession g site
-asked rule k g (tell site partition time) = onServer g site partition (λ s. told s time)
-asked rule k g (put i key kind amount) = onSession g i (λ x. putWorth rule k g i key x (worthFrom kind amount))
+asked rule k g (open_session site) = opened_session g site
+asked rule k g (tell site partition time) = on_server g site partition (λ s. told s time)
+asked rule k g (put i key kind amount) = on_session g i (λ x. put_worth rule k g i key x (worth_from kind amount))
 asked rule k g (get i key) =
-    onSession g i (λ x. showing k (learning k g i x (partitionOf g key)) i (latestVisible k (hearing k g x (partitionOf g key)) key))
-asked rule k g (heartbeat site partition) = onServer g site partition (beaten rule)
+    on_session g i (λ x. showing k (learning k g i x (partition_of g key)) i (latest_visible k (hearing k g x (partition_of g key)) key))
+asked rule k g (heartbeat site partition) = on_server g site partition (beaten rule)
 asked rule k g (deliver from to partition) =
-    cond (hasServer g from partition && (hasServer g to partition && not (from == to)))
-    (delivered g from to partition (nextFor (g.server from partition).waiting to))
+    cond (has_server g from partition && (has_server g to partition && not (from == to)))
+    (delivered g from to partition (next_for (g.server from partition).waiting to))
     (Err NotInLayout, g)
-asked rule k g (report site partition) = changeServer g site partition (reporting k)
-asked rule k g (stabilise site partition) = changeServer g site partition (λ s. raised k s (commonFloor k (reportedAt g site)))
-asked rule k g (openSnapshot i partition) =
-    cond (nat_lt partition g.partitions) (onSession g i (λ x. snapshotOpenedAt k g i x partition (lowestFree g.seats))) (Err NotInLayout, g)
+asked rule k g (report site partition) = change_server g site partition (reporting k)
+asked rule k g (stabilise site partition) = change_server g site partition (λ s. raised k s (common_floor k (reported_at g site)))
+asked rule k g (open_snapshot i partition) =
+    cond (nat_lt partition g.partitions) (on_session g i (λ x. snapshot_opened_at k g i x partition (lowest_free g.seats))) (Err NotInLayout, g)
 asked rule k g (read ticket key) =
-    onSeat g ticket (λ y.
-    let x = sessionAt g y.session in
-    let s = raised k (g.server x.site (partitionOf g key)) (k.floor y.cut) in
-    showing k (withServer g x.site (partitionOf g key) s) y.session (latestCovered k s key (k.floor y.cut)))
-asked rule k g (close ticket) = onSeat g ticket (λ y. (Ok tt, withSeat g ticket.seat None g.nextSerial))
-asked rule k g (tidy site partition) = onServer g site partition (λ s. counted (tidiedUp k s (safeMark k g site)))
-asked rule k g (lead site partition) = cond (hasServer g site partition) (Ok (leadOf (g.server site partition)), g) (Err NotInLayout, g)
+    on_seat g ticket (λ y.
+    let x = session_at g y.session in
+    let s = raised k (g.server x.site (partition_of g key)) (k.floor y.cut) in
+    showing k (with_server g x.site (partition_of g key) s) y.session (latest_covered k s key (k.floor y.cut)))
+asked rule k g (close ticket) = on_seat g ticket (λ y. (Ok tt, with_seat g ticket.seat None g.next_serial))
+asked rule k g (tidy site partition) = on_server g site partition (λ s. counted (tidied_up k s (safe_mark k g site)))
+asked rule k g (lead site partition) = cond (has_server g site partition) (Ok (lead_of (g.server site partition)), g) (Err NotInLayout, g)

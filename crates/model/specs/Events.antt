@@ -24,8 +24,8 @@ pub record Shown : Type 0 where
   pub source : ℕ
 
 -- the put that is shown of a key
-abbrev pub putShown : ℕ → Shown → Put
-putShown key v = record { key = key; stamp = v.stamp; source = v.source }
+abbrev pub put_shown : ℕ → Shown → Put
+put_shown key v = record { key = key; stamp = v.stamp; source = v.source }
 
 -- What an open snapshot is asked by.
 pub record Ticket : Type 0 where
@@ -33,7 +33,7 @@ pub record Ticket : Type 0 where
   pub serial : ℕ
 
 pub data Call : Type 0 where
-  openSession : (site : ℕ) → Call
+  open_session : (site : ℕ) → Call
   tell : (site partition time : ℕ) → Call
   -- a value is given by its kind and its amount
   put : (session key kind amount : ℕ) → Call
@@ -42,7 +42,7 @@ pub data Call : Type 0 where
   deliver : (from to partition : ℕ) → Call
   report : (site partition : ℕ) → Call
   stabilise : (site partition : ℕ) → Call
-  openSnapshot : (session partition : ℕ) → Call
+  open_snapshot : (session partition : ℕ) → Call
   read : Ticket → (key : ℕ) → Call
   close : Ticket → Call
   tidy : (site partition : ℕ) → Call
@@ -54,7 +54,7 @@ abbrev pub Done : Type 0
 Done = Unit {0}
 
 abbrev pub Answered : Call → Type 0
-Answered (openSession site) = ℕ
+Answered (open_session site) = ℕ
 Answered (tell site partition time) = Done
 Answered (put session key kind amount) = ℕ
 Answered (get session key) = Option Shown
@@ -62,7 +62,7 @@ Answered (heartbeat site partition) = ℕ
 Answered (deliver from to partition) = Done
 Answered (report site partition) = Done
 Answered (stabilise site partition) = Done
-Answered (openSnapshot session partition) = Ticket
+Answered (open_snapshot session partition) = Ticket
 Answered (read ticket key) = Option Shown
 Answered (close ticket) = Done
 Answered (tidy site partition) = ℕ
@@ -78,17 +78,17 @@ pub record Event : Type 0 where
 -- What a call that was done tells of sessions, puts and snapshots. A refused call tells nothing, and neither do the calls
 -- that concern no session.
 pub data Told : Type 0 where
-  sessionOpened : (session site : ℕ) → Told
+  session_opened : (session site : ℕ) → Told
   wrote : (session key kind amount stamp : ℕ) → Told
   got : (session key : ℕ) → Option Shown → Told
-  snapshotOpened : (session : ℕ) → Ticket → Told
+  snapshot_opened : (session : ℕ) → Ticket → Told
   read_by : Ticket → (key : ℕ) → Option Shown → Told
-  snapshotClosed : Ticket → Told
+  snapshot_closed : Ticket → Told
   nothing : Told
 
 abbrev pub told : (call : Call) → Answer call → Told
-told (openSession site) (Ok session) = sessionOpened session site
-told (openSession site) (Err why) = nothing
+told (open_session site) (Ok session) = session_opened session site
+told (open_session site) (Err why) = nothing
 told (tell site partition time) answer = nothing
 told (put session key kind amount) (Ok stamp) = wrote session key kind amount stamp
 told (put session key kind amount) (Err why) = nothing
@@ -98,11 +98,11 @@ told (heartbeat site partition) answer = nothing
 told (deliver from to partition) answer = nothing
 told (report site partition) answer = nothing
 told (stabilise site partition) answer = nothing
-told (openSnapshot session partition) (Ok ticket) = snapshotOpened session ticket
-told (openSnapshot session partition) (Err why) = nothing
+told (open_snapshot session partition) (Ok ticket) = snapshot_opened session ticket
+told (open_snapshot session partition) (Err why) = nothing
 told (read ticket key) (Ok v) = read_by ticket key v
 told (read ticket key) (Err why) = nothing
-told (close ticket) (Ok d) = snapshotClosed ticket
+told (close ticket) (Ok d) = snapshot_closed ticket
 told (close ticket) (Err why) = nothing
 told (tidy site partition) answer = nothing
 told (lead site partition) answer = nothing

@@ -7,7 +7,7 @@ use Rattle.servers.specs.Laws.{In}
 use Rattle.servers.specs.Values.{Worth, gone, price, percent, part, sheet}
 use Rattle.servers.specs.Versions.{VersionState}
 use Rattle.model.specs.Calls.{asked, hearing}
-use Rattle.model.specs.Groups.{GroupState, SessionState, SeatState, made, partitionOf, sessionAt, seatAt, first_of}
+use Rattle.model.specs.Groups.{GroupState, SessionState, SeatState, made, partition_of, session_at, seat_at, first_of}
 use Rattle.model.specs.Promises.{KeepsPromises}
 use Rattle.model.specs.Stores.{Store}
 
@@ -24,8 +24,8 @@ abbrev pub AllTaken : GroupState → Type 0
 AllTaken g = (from to partition : ℕ) → from < g.sites → to < g.sites → partition < g.partitions → (g.server from partition).waiting to ≡ []
 
 -- the session's server, once it has heard what the session knows, shows the version
-abbrev pub maySee : Kind → GroupState → ℕ → VersionState → Bool
-maySee k g i v = sees k (hearing k g (sessionAt g i) (partitionOf g v.key)) v
+abbrev pub may_see : Kind → GroupState → ℕ → VersionState → Bool
+may_see k g i v = sees k (hearing k g (session_at g i) (partition_of g v.key)) v
 
 -- a percentage is at most 10,000 hundredths; a price is whatever amount was put
 abbrev pub InRange : Worth → Type 0
@@ -43,8 +43,8 @@ pub record VersionBounded (sites : ℕ) (v : VersionState) : Type 0 where
 
 -- a server holds at most 32 versions and keeps at most 16 entries for a site
 pub record ServerBounded (sites : ℕ) (s : ServerState) : Type 0 where
-  pub few-versions : length s.held ≤ 32
-  pub few-entries : (site : ℕ) → length (s.waiting site) ≤ 16
+  pub few_versions : length s.held ≤ 32
+  pub few_entries : (site : ℕ) → length (s.waiting site) ≤ 16
   pub versions : (v : VersionState) → In v s.held → VersionBounded sites v
   pub reading : s.reading < 2 ^ 47
   pub received : Stamps s.marks.received
@@ -64,16 +64,16 @@ pub record SeatBounded (sessions next : ℕ) (y : SeatState) : Type 0 where
 -- a group has at most 8 sessions, 4 seats, and serial numbers below 2^32
 pub record GroupBounded (g : GroupState) : Type 0 where
   pub servers : (site partition : ℕ) → site < g.sites → partition < g.partitions → ServerBounded g.sites (g.server site partition)
-  pub few-sessions : length g.sessions ≤ 8
-  pub sessions : (i : ℕ) → i < length g.sessions → SessionBounded g.sites (sessionAt g i)
-  pub four-seats : length g.seats ≡ 4
-  pub seats : (a : ℕ) (y : SeatState) → seatAt g a ≡ Some y → SeatBounded (length g.sessions) g.nextSerial y
-  pub serials : g.nextSerial < 2 ^ 32
+  pub few_sessions : length g.sessions ≤ 8
+  pub sessions : (i : ℕ) → i < length g.sessions → SessionBounded g.sites (session_at g i)
+  pub four_seats : length g.seats ≡ 4
+  pub seats : (a : ℕ) (y : SeatState) → seat_at g a ≡ Some y → SeatBounded (length g.sessions) g.next_serial y
+  pub serials : g.next_serial < 2 ^ 32
 
-abbrev pub groupStore : Rule → Kind → ℕ → Store
-groupStore rule k sites =
-    record { State = GroupState; sites = sites; ask = asked rule k; Quiet = AllTaken; holds = held_at; maySee = maySee k; Bounded = GroupBounded }
+abbrev pub group_store : Rule → Kind → ℕ → Store
+group_store rule k sites =
+    record { State = GroupState; sites = sites; ask = asked rule k; Quiet = AllTaken; holds = held_at; may_see = may_see k; Bounded = GroupBounded }
 
 -- A group with this clock rule and this kind of mark keeps the promises from its making on.
 abbrev pub GroupKeepsPromises : Rule → Kind → ℕ → ℕ → Type 0
-GroupKeepsPromises rule k sites partitions = KeepsPromises (groupStore rule k sites) (made sites partitions)
+GroupKeepsPromises rule k sites partitions = KeepsPromises (group_store rule k sites) (made sites partitions)

@@ -1,33 +1,33 @@
 -- The past of a session and of a put, read from calls and answers only.
 use Rattle.std.specs.Prelude.{◌≡◌, ℕ, cond, ◌⊎◌, [], ◌∷◌, Some, None, Option, ◌==◌}
-use Rattle.model.specs.Events.{Put, Shown, putShown, sessionOpened, wrote, got, snapshotOpened, read_by, snapshotClosed, nothing, History}
+use Rattle.model.specs.Events.{Put, Shown, put_shown, session_opened, wrote, got, snapshot_opened, read_by, snapshot_closed, nothing, History}
 
 -- the site of a session: where it was opened
-abbrev pub siteOf : History → ℕ → ℕ
-siteOf [] session = 0
-siteOf (sessionOpened i site ∷ h) session = cond (session == i) site (siteOf h session)
-siteOf (wrote i key kind amount stamp ∷ h) session = siteOf h session
-siteOf (got i key v ∷ h) session = siteOf h session
-siteOf (snapshotOpened i ticket ∷ h) session = siteOf h session
-siteOf (read_by ticket key v ∷ h) session = siteOf h session
-siteOf (snapshotClosed ticket ∷ h) session = siteOf h session
-siteOf (nothing ∷ h) session = siteOf h session
+abbrev pub site_of : History → ℕ → ℕ
+site_of [] session = 0
+site_of (session_opened i site ∷ h) session = cond (session == i) site (site_of h session)
+site_of (wrote i key kind amount stamp ∷ h) session = site_of h session
+site_of (got i key v ∷ h) session = site_of h session
+site_of (snapshot_opened i ticket ∷ h) session = site_of h session
+site_of (read_by ticket key v ∷ h) session = site_of h session
+site_of (snapshot_closed ticket ∷ h) session = site_of h session
+site_of (nothing ∷ h) session = site_of h session
 
 -- the session that opened the snapshot of a serial number
-abbrev pub readerOf : History → ℕ → ℕ
-readerOf [] serial = 0
-readerOf (sessionOpened i site ∷ h) serial = readerOf h serial
-readerOf (wrote i key kind amount stamp ∷ h) serial = readerOf h serial
-readerOf (got i key v ∷ h) serial = readerOf h serial
-readerOf (snapshotOpened i ticket ∷ h) serial = cond (serial == ticket.serial) i (readerOf h serial)
-readerOf (read_by ticket key v ∷ h) serial = readerOf h serial
-readerOf (snapshotClosed ticket ∷ h) serial = readerOf h serial
-readerOf (nothing ∷ h) serial = readerOf h serial
+abbrev pub reader_of : History → ℕ → ℕ
+reader_of [] serial = 0
+reader_of (session_opened i site ∷ h) serial = reader_of h serial
+reader_of (wrote i key kind amount stamp ∷ h) serial = reader_of h serial
+reader_of (got i key v ∷ h) serial = reader_of h serial
+reader_of (snapshot_opened i ticket ∷ h) serial = cond (serial == ticket.serial) i (reader_of h serial)
+reader_of (read_by ticket key v ∷ h) serial = reader_of h serial
+reader_of (snapshot_closed ticket ∷ h) serial = reader_of h serial
+reader_of (nothing ∷ h) serial = reader_of h serial
 
 -- Whose past: a session's, or that of a put.
 pub data Who : Type 0 where
-  ofSession : ℕ → Who
-  ofPut : Put → Who
+  of_session : ℕ → Who
+  of_put : Put → Who
 
 -- a set of puts for each
 abbrev pub Pasts : Type 1
@@ -35,25 +35,25 @@ Pasts = Who → Put → Type 0
 
 -- Session i put p: p stands in its past from now on, and what stood there before is the past of p.
 abbrev pub writing : Pasts → ℕ → Put → Pasts
-writing P i p (ofSession j) q = P (ofSession j) q ⊎ ((j ≡ i) × (q ≡ p))
-writing P i p (ofPut r) q = P (ofPut r) q ⊎ ((r ≡ p) × P (ofSession i) q)
+writing P i p (of_session j) q = P (of_session j) q ⊎ ((j ≡ i) × (q ≡ p))
+writing P i p (of_put r) q = P (of_put r) q ⊎ ((r ≡ p) × P (of_session i) q)
 
 -- Session i was shown p: p and its past stand in its past from now on.
 abbrev pub seeing : Pasts → ℕ → Put → Pasts
-seeing P i p (ofSession j) q = P (ofSession j) q ⊎ ((j ≡ i) × ((q ≡ p) ⊎ P (ofPut p) q))
-seeing P i p (ofPut r) q = P (ofPut r) q
+seeing P i p (of_session j) q = P (of_session j) q ⊎ ((j ≡ i) × ((q ≡ p) ⊎ P (of_put p) q))
+seeing P i p (of_put r) q = P (of_put r) q
 
 -- the same with what is shown of a key; none has no past
-abbrev pub seeingShown : Pasts → ℕ → ℕ → Option Shown → Pasts
-seeingShown P i key None = P
-seeingShown P i key (Some v) = seeing P i (putShown key v)
+abbrev pub seeing_shown : Pasts → ℕ → ℕ → Option Shown → Pasts
+seeing_shown P i key None = P
+seeing_shown P i key (Some v) = seeing P i (put_shown key v)
 
 abbrev pub Past : History → Pasts
 Past [] w p = ⊥
-Past (sessionOpened i site ∷ h) w p = Past h w p
-Past (wrote i key kind amount stamp ∷ h) w p = writing (Past h) i (record { key = key; stamp = stamp; source = siteOf h i }) w p
-Past (got i key v ∷ h) w p = seeingShown (Past h) i key v w p
-Past (snapshotOpened i ticket ∷ h) w p = Past h w p
-Past (read_by ticket key v ∷ h) w p = seeingShown (Past h) (readerOf h ticket.serial) key v w p
-Past (snapshotClosed ticket ∷ h) w p = Past h w p
+Past (session_opened i site ∷ h) w p = Past h w p
+Past (wrote i key kind amount stamp ∷ h) w p = writing (Past h) i (record { key = key; stamp = stamp; source = site_of h i }) w p
+Past (got i key v ∷ h) w p = seeing_shown (Past h) i key v w p
+Past (snapshot_opened i ticket ∷ h) w p = Past h w p
+Past (read_by ticket key v ∷ h) w p = seeing_shown (Past h) (reader_of h ticket.serial) key v w p
+Past (snapshot_closed ticket ∷ h) w p = Past h w p
 Past (nothing ∷ h) w p = Past h w p

@@ -2,15 +2,15 @@
 use Rattle.std.specs.Prelude.{◌≡◌, ℕ, ◌<◌, Bool, true, ◌⊎◌, List, [], ◌∷◌, Some, None, Ok, Err, Option, Result, ◌≢◌}
 use Rattle.stamps.specs.declared.refusal.Refusal.{Refusal}
 use Rattle.servers.specs.Laws.{In, IsLatest}
-use Rattle.servers.specs.Values.{Worth, worthFrom}
+use Rattle.servers.specs.Values.{Worth, worth_from}
 use Rattle.servers.specs.Versions.{VersionState}
-use Rattle.model.specs.Events.{Put, AsLate, Later, Shown, putShown, Ticket, Call, put, get, openSnapshot, read, sessionOpened, wrote, got, snapshotOpened, read_by, snapshotClosed, nothing, History}
-use Rattle.model.specs.Pasts.{siteOf, ofSession, ofPut, Past}
-use Rattle.model.specs.Stores.{Store, Run, answer, then, thenAll, history}
+use Rattle.model.specs.Events.{Put, AsLate, Later, Shown, put_shown, Ticket, Call, put, get, open_snapshot, read, session_opened, wrote, got, snapshot_opened, read_by, snapshot_closed, nothing, History}
+use Rattle.model.specs.Pasts.{site_of, of_session, of_put, Past}
+use Rattle.model.specs.Stores.{Store, Run, answer, then, then_all, history}
 
 -- What is shown of a key is put p or a later one; none is older than every put, and so is a refusal.
 abbrev pub ShowsAsLate : ℕ → Result (Option Shown) Refusal → Put → Type 0
-ShowsAsLate key (Ok (Some v)) p = AsLate (putShown key v) p
+ShowsAsLate key (Ok (Some v)) p = AsLate (put_shown key v) p
 ShowsAsLate key (Ok None) p = ⊥
 ShowsAsLate key (Err why) p = ⊥
 
@@ -21,64 +21,64 @@ SameAnswer a b = (o : Option Shown) × (a ≡ Ok o) × (b ≡ Ok o)
 -- A snapshot was opened, and not closed since.
 abbrev pub Open : Ticket → History → Type 0
 Open ticket [] = ⊥
-Open ticket (sessionOpened i site ∷ h) = Open ticket h
+Open ticket (session_opened i site ∷ h) = Open ticket h
 Open ticket (wrote i key kind amount stamp ∷ h) = Open ticket h
 Open ticket (got i key v ∷ h) = Open ticket h
-Open ticket (snapshotOpened i other ∷ h) = (ticket ≡ other) ⊎ Open ticket h
+Open ticket (snapshot_opened i other ∷ h) = (ticket ≡ other) ⊎ Open ticket h
 Open ticket (read_by other key v ∷ h) = Open ticket h
-Open ticket (snapshotClosed other ∷ h) = (ticket ≢ other) × Open ticket h
+Open ticket (snapshot_closed other ∷ h) = (ticket ≢ other) × Open ticket h
 Open ticket (nothing ∷ h) = Open ticket h
 
 -- The history has a done put of this name and this value. Its source is the site of its session then.
 abbrev pub WasPut : History → Put → Worth → Type 0
 WasPut [] p x = ⊥
-WasPut (sessionOpened i site ∷ h) p x = WasPut h p x
+WasPut (session_opened i site ∷ h) p x = WasPut h p x
 WasPut (wrote i key kind amount stamp ∷ h) p x =
-    WasPut h p x ⊎ ((p ≡ record { key = key; stamp = stamp; source = siteOf h i }) × (worthFrom kind amount ≡ Ok x))
+    WasPut h p x ⊎ ((p ≡ record { key = key; stamp = stamp; source = site_of h i }) × (worth_from kind amount ≡ Ok x))
 WasPut (got i key v ∷ h) p x = WasPut h p x
-WasPut (snapshotOpened i ticket ∷ h) p x = WasPut h p x
+WasPut (snapshot_opened i ticket ∷ h) p x = WasPut h p x
 WasPut (read_by ticket key v ∷ h) p x = WasPut h p x
-WasPut (snapshotClosed ticket ∷ h) p x = WasPut h p x
+WasPut (snapshot_closed ticket ∷ h) p x = WasPut h p x
 WasPut (nothing ∷ h) p x = WasPut h p x
 
 -- a version of any kind
-abbrev pub anyVersion : VersionState → Bool
-anyVersion v = true
+abbrev pub any_version : VersionState → Bool
+any_version v = true
 
 module _ (S : Store) where
   -- What holds after a run.
   pub record Promises (r : Run S) : Type 0 where
     -- (a) a put is later than each put of its key in its past
-    pub put-later : (p q : Put) → Past (history S r) (ofPut p) q → q.key ≡ p.key → Later p q
+    pub put_later : (p q : Put) → Past (history S r) (of_put p) q → q.key ≡ p.key → Later p q
     -- for each put in a session's past, a get of that key would now show the session this put or a later one
-    pub get-shows-past : (session : ℕ) (p : Put) → Past (history S r) (ofSession session) p → ShowsAsLate p.key (answer S r (get session p.key)) p
+    pub get_shows_past : (session : ℕ) (p : Put) → Past (history S r) (of_session session) p → ShowsAsLate p.key (answer S r (get session p.key)) p
     -- (b) an open snapshot would now answer a read of each key as right after its opening, and does not refuse it
-    pub snapshot-stays : (session partition : ℕ) (ticket : Ticket) → answer S r (openSnapshot session partition) ≡ Ok ticket →
+    pub snapshot_stays : (session partition : ℕ) (ticket : Ticket) → answer S r (open_snapshot session partition) ≡ Ok ticket →
         (calls : List Call) →
-        let opened = then S r (openSnapshot session partition) in
-        let now = thenAll S opened calls in
+        let opened = then S r (open_snapshot session partition) in
+        let now = then_all S opened calls in
         Open ticket (history S now) → (key : ℕ) → SameAnswer (answer S now (read ticket key)) (answer S opened (read ticket key))
     -- of one snapshot's answers, not one is older than a put of its key in the past of any of them
-    pub snapshot-whole : (ticket : Ticket) (key other : ℕ) (o : Option Shown) (v : Shown) (p : Put) →
+    pub snapshot_whole : (ticket : Ticket) (key other : ℕ) (o : Option Shown) (v : Shown) (p : Put) →
         In (read_by ticket key o) (history S r) → In (read_by ticket other (Some v)) (history S r) →
-        Past (history S r) (ofPut (putShown other v)) p → p.key ≡ key → ShowsAsLate key (Ok o) p
+        Past (history S r) (of_put (put_shown other v)) p → p.key ≡ key → ShowsAsLate key (Ok o) p
     -- (c) with every outbox empty, any two sites hold the same latest version of each key, or neither holds one
-    pub sites-agree : S.Quiet r.state → (site other key : ℕ) → site < S.sites → other < S.sites → (v w : Option VersionState) →
-        IsLatest anyVersion key (S.holds r.state site) v → IsLatest anyVersion key (S.holds r.state other) w → v ≡ w
+    pub sites_agree : S.Quiet r.state → (site other key : ℕ) → site < S.sites → other < S.sites → (v w : Option VersionState) →
+        IsLatest any_version key (S.holds r.state site) v → IsLatest any_version key (S.holds r.state other) w → v ≡ w
     -- no two puts have one name
-    pub put-new : (session key kind amount stamp : ℕ) (x : Worth) → answer S r (put session key kind amount) ≡ Ok stamp →
-        WasPut (history S r) (record { key = key; stamp = stamp; source = siteOf (history S r) session }) x → ⊥
+    pub put_new : (session key kind amount stamp : ℕ) (x : Worth) → answer S r (put session key kind amount) ≡ Ok stamp →
+        WasPut (history S r) (record { key = key; stamp = stamp; source = site_of (history S r) session }) x → ⊥
     -- what is shown of a key was put, with that key, value, stamp and source
-    pub get-honest : (session key : ℕ) (v : Shown) → answer S r (get session key) ≡ Ok (Some v) → WasPut (history S r) (putShown key v) v.value
-    pub read-honest : (ticket : Ticket) (key : ℕ) (v : Shown) → answer S r (read ticket key) ≡ Ok (Some v) → WasPut (history S r) (putShown key v) v.value
+    pub get_honest : (session key : ℕ) (v : Shown) → answer S r (get session key) ≡ Ok (Some v) → WasPut (history S r) (put_shown key v) v.value
+    pub read_honest : (ticket : Ticket) (key : ℕ) (v : Shown) → answer S r (read ticket key) ≡ Ok (Some v) → WasPut (history S r) (put_shown key v) v.value
     -- a get answers none exactly when the site holds no version of that key that the session may see
     pub get_none : (session key : ℕ) → answer S r (get session key) ≡ Ok None →
-        (v : VersionState) → In v (S.holds r.state (siteOf (history S r) session)) → v.key ≡ key → S.maySee r.state session v ≢ true
-    pub get-some : (session key : ℕ) (v : Shown) → answer S r (get session key) ≡ Ok (Some v) →
-        (w : VersionState) × In w (S.holds r.state (siteOf (history S r) session)) × (w.key ≡ key) × (S.maySee r.state session w ≡ true)
+        (v : VersionState) → In v (S.holds r.state (site_of (history S r) session)) → v.key ≡ key → S.may_see r.state session v ≢ true
+    pub get_some : (session key : ℕ) (v : Shown) → answer S r (get session key) ≡ Ok (Some v) →
+        (w : VersionState) × In w (S.holds r.state (site_of (history S r) session)) × (w.key ≡ key) × (S.may_see r.state session w ≡ true)
     -- the capacities and ranges hold
     pub bounded : S.Bounded r.state
 
   -- The promises hold right after the making and after every list of calls.
   abbrev pub KeepsPromises : S.State → Type 0
-  KeepsPromises made = (calls : List Call) → Promises (thenAll S (record { events = []; state = made }) calls)
+  KeepsPromises made = (calls : List Call) → Promises (then_all S (record { events = []; state = made }) calls)

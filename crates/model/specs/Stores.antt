@@ -13,7 +13,7 @@ pub record Store : Type 1 where
   -- the versions that a site's servers hold
   pub holds : State → ℕ → List VersionState
   -- whether a session may see a version that its site holds
-  pub maySee : State → ℕ → VersionState → Bool
+  pub may_see : State → ℕ → VersionState → Bool
   -- the capacities and ranges hold
   pub Bounded : State → Type 0
 
@@ -30,9 +30,9 @@ module _ (S : Store) where
   then r call = record { events = record { call = call; answer = answer r call } ∷ r.events; state = (S.ask r.state call).1 }
 
   -- the calls of a list, one after the other
-  abbrev pub thenAll : Run S → List Call → Run S
-  thenAll r [] = r
-  thenAll r (call ∷ calls) = thenAll (then r call) calls
+  abbrev pub then_all : Run S → List Call → Run S
+  then_all r [] = r
+  then_all r (call ∷ calls) = then_all (then r call) calls
 
   abbrev pub history : Run S → History
   history r = tale r.events

@@ -1,10 +1,10 @@
 // The worked case, computed from the definitions.
 ghost use Rattle.std.specs.Prelude.{◌≡◌, length};
-ghost use Rattle.model.specs.WorkedCase.{WorkedCase, workedEvents};
+ghost use Rattle.model.specs.WorkedCase.{WorkedCase, worked_events};
 
 // How many calls the worked case has. That the definitions answer them as they should is part of the contract.
 pub fn worked_case_calls() -> usize
-    ensures count { result ≡ length workedEvents }
+    ensures count { result ≡ length worked_events }
     ensures answers { WorkedCase }
 {
     compute_answers();

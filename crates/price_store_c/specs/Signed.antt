@@ -1,8 +1,8 @@
 -- An answer as one signed number.
 use Rattle.std.specs.Prelude.{ℕ, List, ℤ, Result}
 use Rattle.stamps.specs.declared.refusal.Refusal.{Refusal}
-use Rattle.stamps.specs.Outside.{signedNumber}
+use Rattle.stamps.specs.Outside.{signed_number}
 
 -- what was answered, or minus the refusal's number, and the buffer after it
-abbrev pub withNumber : Result ℕ Refusal × List ℕ → ℤ × List ℕ
-withNumber (answer, buffer) = (signedNumber answer, buffer)
+abbrev pub with_number : Result ℕ Refusal × List ℕ → ℤ × List ℕ
+with_number (answer, buffer) = (signed_number answer, buffer)

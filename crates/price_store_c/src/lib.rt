@@ -3,17 +3,17 @@
 
 ghost use Rattle.std.specs.Prelude.{◌≡◌, ℕ, pos, take};
 ghost use Rattle.stamps.specs.Clocks.{raw as rawly, hybrid as hybridly};
-ghost use Rattle.stamps.specs.Outside.{askedStamp, signedNumber};
+ghost use Rattle.stamps.specs.Outside.{asked_stamp, signed_number};
 ghost use Rattle.script.specs.Laws.{ListingLaw};
-ghost use Rattle.script.specs.Scripts.{listingInto};
-ghost use Rattle.price_store_c.specs.Signed.{withNumber};
+ghost use Rattle.script.specs.Scripts.{listing_into};
+ghost use Rattle.price_store_c.specs.Signed.{with_number};
 
 use script::list::list_into;
 
 // The stamp that the raw rule answers, or minus the refusal's number.
 #[unsafe(no_mangle)]
 pub extern "C" fn raw_stamp(last: u64, reading: u64, dependency: u64) -> i64
-    ensures { result ≡ signedNumber (askedStamp rawly last reading dependency) }
+    ensures { result ≡ signed_number (asked_stamp rawly last reading dependency) }
 {
     stamps::outside::raw_stamp(last, reading, dependency)
 }
@@ -21,7 +21,7 @@ pub extern "C" fn raw_stamp(last: u64, reading: u64, dependency: u64) -> i64
 // The stamp that the hybrid rule answers, or minus the refusal's number.
 #[unsafe(no_mangle)]
 pub extern "C" fn hybrid_stamp(last: u64, reading: u64, dependency: u64) -> i64
-    ensures { result ≡ signedNumber (askedStamp hybridly last reading dependency) }
+    ensures { result ≡ signed_number (asked_stamp hybridly last reading dependency) }
 {
     stamps::outside::hybrid_stamp(last, reading, dependency)
 }
@@ -30,7 +30,7 @@ pub extern "C" fn hybrid_stamp(last: u64, reading: u64, dependency: u64) -> i64
 // not 96 bytes for each line.
 #[unsafe(no_mangle)]
 pub extern "C" fn price_listing(script: &[u8], buffer: &mut [u8]) -> i64
-    ensures value { (result, buffer.new) ≡ withNumber (listingInto script.now buffer.old) }
+    ensures value { (result, buffer.new) ≡ with_number (listing_into script.now buffer.old) }
     ensures law { (len : ℕ) → result ≡ pos len → ListingLaw script.now (take len buffer.new) }
 {
     match list_into(script, buffer) {

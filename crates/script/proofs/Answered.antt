@@ -8,126 +8,126 @@ use Rattle.stamps.specs.declared.refusal.Refusal.{Refusal}
 use Rattle.stamps.specs.declared.refusal.Refusal.TheVariants.{ShortCommand}
 use Rattle.commands.specs.declared.command.Command.{Command}
 use Rattle.commands.specs.declared.command.Command.TheVariants.{Layout, OpenSession, Tell, Put, Get, Heartbeat, Deliver, Report, Stabilise, Tidy, Lead, View}
-use Rattle.commands.specs.Commands.{Form, formOf, readCommand, readForm}
+use Rattle.commands.specs.Commands.{Form, form_of, read_command, read_form}
 use Rattle.commands.specs.Writing.{Bytes, Lawful, written}
-use Rattle.commands.proofs.Shorter.{read-shorter}
-use Rattle.commands.proofs.Written.{read-written, written-read}
+use Rattle.commands.proofs.Shorter.{read_shorter}
+use Rattle.commands.proofs.Written.{read_written, written_read}
 use Rattle.script.specs.Answers.{Said, refused}
-use Rattle.script.specs.Laws.{EachShort, IsScript, ListingLaw, answers, answersFrom, letterOf, linesFor, linesOf, restAnswers, unreadable}
+use Rattle.script.specs.Laws.{EachShort, IsScript, ListingLaw, answers, answers_from, letter_of, lines_for, listed_lines, rest_answers, unreadable}
 use Rattle.script.specs.Lines.{line_of}
-use Rattle.script.specs.Scripts.{ScriptState, begun, endedBy, lines_of, listing, numbered, stepped, steppedBy, steppedTo}
+use Rattle.script.specs.Scripts.{ScriptState, begun, ended_by, lines_of, listing, numbered, stepped, stepped_by, stepped_to}
 use Rattle.script.specs.Stores.{Store, obeyed}
-use Rattle.script.proofs.Listing.{linesLeft, lines-begun, lines-none, lines-turn}
-use Rattle.script.proofs.Stepping.{next-is, read-obeyed}
+use Rattle.script.proofs.Listing.{lines_left, lines_begun, lines_none, lines_turn}
+use Rattle.script.proofs.Stepping.{next_is, read_obeyed}
 
 -- a command is written in at least one byte
-some-written : (c : Command) → 0 < length (written c)
-some-written (Layout sites partitions clock marks) = omega arith
-some-written (OpenSession site) = omega arith
-some-written (Tell site partition time) = omega arith
-some-written (Put session key kind amount) = omega arith
-some-written (Get session key) = omega arith
-some-written (Heartbeat site partition) = omega arith
-some-written (Deliver from to partition) = omega arith
-some-written (Report site partition) = omega arith
-some-written (Stabilise site partition) = omega arith
-some-written (Tidy site partition) = omega arith
-some-written (Lead site partition) = omega arith
-some-written (View session partition first second) = omega arith
+some_written : (c : Command) → 0 < length (written c)
+some_written (Layout sites partitions clock marks) = omega arith
+some_written (OpenSession site) = omega arith
+some_written (Tell site partition time) = omega arith
+some_written (Put session key kind amount) = omega arith
+some_written (Get session key) = omega arith
+some_written (Heartbeat site partition) = omega arith
+some_written (Deliver from to partition) = omega arith
+some_written (Report site partition) = omega arith
+some_written (Stabilise site partition) = omega arith
+some_written (Tidy site partition) = omega arith
+some_written (Lead site partition) = omega arith
+some_written (View session partition first second) = omega arith
 
 -- why a rest is not read
-read-refused : (letter : ℕ) (bytes : List ℕ) (why : Refusal) → readCommand (letter ∷ bytes) ≡ Err why → why ≡ unreadable (formOf letter)
-read-refused letter bytes why = by-form (formOf letter)
+read_refused : (letter : ℕ) (bytes : List ℕ) (why : Refusal) → read_command (letter ∷ bytes) ≡ Err why → why ≡ unreadable (form_of letter)
+read_refused letter bytes why = by_form (form_of letter)
   where
-    by-form : (f : Option Form) → readForm f bytes ≡ Err why → why ≡ unreadable f
-    by-form None e = cc
-    by-form (Some f) e =
+    by_form : (f : Option Form) → read_form f bytes ≡ Err why → why ≡ unreadable f
+    by_form None e = cc
+    by_form (Some f) e =
         cond_both (leb f.width (length bytes)) (Ok (f.make bytes, drop f.width bytes)) (Err ShortCommand) (λ r. r ≡ Err why → why ≡ ShortCommand)
         (λ _ e. absurd cc) (λ _ e. cc) e
 
 -- what begins no command is not read
-not-read : (rest : List ℕ) → Bytes rest → ((command : Command) (after : List ℕ) → Lawful command → rest ≡ written command ++ after → ⊥)
-    → (why : Refusal) × (readCommand rest ≡ Err why)
-not-read rest h ends = by-read (readCommand rest) refl
+not_read : (rest : List ℕ) → Bytes rest → ((command : Command) (after : List ℕ) → Lawful command → rest ≡ written command ++ after → ⊥)
+    → (why : Refusal) × (read_command rest ≡ Err why)
+not_read rest h ends = by_read (read_command rest) refl
   where
-    by-read : (r : Result (Command × List ℕ) Refusal) → readCommand rest ≡ r → (why : Refusal) × (readCommand rest ≡ Err why)
-    by-read (Err why) e = (why, e)
-    by-read (Ok p) e = let w = read-written rest p h e in absurd (ends p.0 p.1 w.0 w.1)
+    by_read : (r : Result (Command × List ℕ) Refusal) → read_command rest ≡ r → (why : Refusal) × (read_command rest ≡ Err why)
+    by_read (Err why) e = (why, e)
+    by_read (Ok p) e = let w = read_written rest p h e in absurd (ends p.0 p.1 w.0 w.1)
 
 -- the lines that follow, from the step
-lines-step : (s : ScriptState) (letter : ℕ) (outcome : Said × ScriptState) → 0 < length s.rest → get_or s.rest 0 0 ≡ letter → stepped s ≡ outcome
-    → linesLeft s ≡ (numbered letter outcome).0 ∷ linesLeft (numbered letter outcome).1
-lines-step s letter outcome some first is =
-    lines-turn s (numbered letter outcome).1 (numbered letter outcome).0 (sym (next-is s letter some first) ∙ ap (λ o. Some (numbered letter o)) is)
+lines_step : (s : ScriptState) (letter : ℕ) (outcome : Said × ScriptState) → 0 < length s.rest → get_or s.rest 0 0 ≡ letter → stepped s ≡ outcome
+    → lines_left s ≡ (numbered letter outcome).0 ∷ lines_left (numbered letter outcome).1
+lines_step s letter outcome some first is =
+    lines_turn s (numbered letter outcome).1 (numbered letter outcome).0 (sym (next_is s letter some first) ∙ ap (λ o. Some (numbered letter o)) is)
 
 -- a refusal that ends the listing is its last line
-lines-end : (s : ScriptState) (letter : ℕ) (rest : List ℕ) (store : Store) (why : Refusal) → 0 < length s.rest → get_or s.rest 0 0 ≡ letter
-    → stepped s ≡ endedBy (record { rest = rest; lines = s.lines; store = store }) why → linesLeft s ≡ line_of (s.lines + 1) letter (refused why) ∷ []
-lines-end s letter rest store why some first is =
+lines_end : (s : ScriptState) (letter : ℕ) (rest : List ℕ) (store : Store) (why : Refusal) → 0 < length s.rest → get_or s.rest 0 0 ≡ letter
+    → stepped s ≡ ended_by (record { rest = rest; lines = s.lines; store = store }) why → lines_left s ≡ line_of (s.lines + 1) letter (refused why) ∷ []
+lines_end s letter rest store why some first is =
     let ended : ScriptState = record { rest = rest; lines = s.lines; store = store } in
-    lines-step s letter (endedBy ended why) some first is
-    ∙ ap (λ more. line_of (s.lines + 1) letter (refused why) ∷ more) (lines-none (numbered letter (endedBy ended why)).1 refl)
+    lines_step s letter (ended_by ended why) some first is
+    ∙ ap (λ more. line_of (s.lines + 1) letter (refused why) ∷ more) (lines_none (numbered letter (ended_by ended why)).1 refl)
 
 -- the lines of a rest that begins no command
-rest-lines : (s : ScriptState) (rest : List ℕ) → s.rest ≡ rest → Bytes rest → ((command : Command) (after : List ℕ) → Lawful command → rest ≡ written command ++ after → ⊥)
-    → linesLeft s ≡ linesOf (s.lines + 1) (restAnswers rest)
-rest-lines s [] is h ends = lines-none s (ap length is)
-rest-lines s (b ∷ bytes) is h ends =
-    let no = not-read (b ∷ bytes) h ends in
-    lines-end s b s.rest s.store no.0 (omega (arith, ap length is)) (ap (λ r. get_or r 0 0) is) (ap (steppedBy s) (ap readCommand is ∙ no.1))
-    ∙ ap (λ why. line_of (s.lines + 1) b (refused why) ∷ []) (read-refused b bytes no.0 no.1)
+rest_lines : (s : ScriptState) (rest : List ℕ) → s.rest ≡ rest → Bytes rest → ((command : Command) (after : List ℕ) → Lawful command → rest ≡ written command ++ after → ⊥)
+    → lines_left s ≡ listed_lines (s.lines + 1) (rest_answers rest)
+rest_lines s [] is h ends = lines_none s (ap length is)
+rest_lines s (b ∷ bytes) is h ends =
+    let no = not_read (b ∷ bytes) h ends in
+    lines_end s b s.rest s.store no.0 (omega (arith, ap length is)) (ap (λ r. get_or r 0 0) is) (ap (stepped_by s) (ap read_command is ∙ no.1))
+    ∙ ap (λ why. line_of (s.lines + 1) b (refused why) ∷ []) (read_refused b bytes no.0 no.1)
 
 -- bytes after bytes
-bytes-after : (front rest : List ℕ) → Bytes (front ++ rest) → Bytes rest
-bytes-after front rest h i = let at = get_or-append-add front rest i 0 in let byte = h (length front + i) in omega arith
+bytes_after : (front rest : List ℕ) → Bytes (front ++ rest) → Bytes rest
+bytes_after front rest h i = let at = get_or-append-add front rest i 0 in let byte = h (length front + i) in omega arith
 
 -- the lines of a command that is read, and of what comes after it
-command-lines : (command : Command) (left : List ℕ) (s : ScriptState) (more : Store → List (ℕ × Said)) → Lawful command → s.rest ≡ written command ++ left
-    → ((store : Store) → linesLeft (record { rest = left; lines = s.lines + 1; store = store }) ≡ linesOf (s.lines + 1 + 1) (more store))
-    → linesLeft s ≡ linesOf (s.lines + 1) (answersFrom (letterOf command) more (obeyed s.store command))
-command-lines command left s more lawful is then = by-outcome (obeyed s.store command) refl
+command_lines : (command : Command) (left : List ℕ) (s : ScriptState) (more : Store → List (ℕ × Said)) → Lawful command → s.rest ≡ written command ++ left
+    → ((store : Store) → lines_left (record { rest = left; lines = s.lines + 1; store = store }) ≡ listed_lines (s.lines + 1 + 1) (more store))
+    → lines_left s ≡ listed_lines (s.lines + 1) (answers_from (letter_of command) more (obeyed s.store command))
+command_lines command left s more lawful is then = by_outcome (obeyed s.store command) refl
   where
-    by-answer : (outcome : Result Said Refusal × Store) → 0 < length s.rest → get_or s.rest 0 0 ≡ letterOf command → stepped s ≡ steppedTo s left outcome
-        → linesLeft s ≡ linesOf (s.lines + 1) (answersFrom (letterOf command) more outcome)
-    by-answer (Ok answer, store) some first step =
-        lines-step s (letterOf command) (answer, record { rest = left; lines = s.lines; store = store }) some first step
-        ∙ ap (λ lines. line_of (s.lines + 1) (letterOf command) answer ∷ lines) (then store)
-    by-answer (Err why, store) some first step = lines-end s (letterOf command) s.rest store why some first step
+    by_answer : (outcome : Result Said Refusal × Store) → 0 < length s.rest → get_or s.rest 0 0 ≡ letter_of command → stepped s ≡ stepped_to s left outcome
+        → lines_left s ≡ listed_lines (s.lines + 1) (answers_from (letter_of command) more outcome)
+    by_answer (Ok answer, store) some first step =
+        lines_step s (letter_of command) (answer, record { rest = left; lines = s.lines; store = store }) some first step
+        ∙ ap (λ lines. line_of (s.lines + 1) (letter_of command) answer ∷ lines) (then store)
+    by_answer (Err why, store) some first step = lines_end s (letter_of command) s.rest store why some first step
 
-    by-outcome : (outcome : Result Said Refusal × Store) → outcome ≡ obeyed s.store command → linesLeft s ≡ linesOf (s.lines + 1) (answersFrom (letterOf command) more outcome)
-    by-outcome outcome e =
-        let some : 0 < length s.rest = omega (arith, ap length is, length-append (written command) left, some-written command) in
-        let first : get_or s.rest 0 0 ≡ letterOf command = ap (λ r. get_or r 0 0) is ∙ get_or_append_left (written command) left 0 0 (some-written command) in
-        let step = sym (read-obeyed s command left outcome (sym (ap readCommand is ∙ written-read command left lawful)) e) in
-        by-answer outcome some first step
+    by_outcome : (outcome : Result Said Refusal × Store) → outcome ≡ obeyed s.store command → lines_left s ≡ listed_lines (s.lines + 1) (answers_from (letter_of command) more outcome)
+    by_outcome outcome e =
+        let some : 0 < length s.rest = omega (arith, ap length is, length-append (written command) left, some_written command) in
+        let first : get_or s.rest 0 0 ≡ letter_of command = ap (λ r. get_or r 0 0) is ∙ get_or_append_left (written command) left 0 0 (some_written command) in
+        let step = sym (read_obeyed s command left outcome (sym (ap read_command is ∙ written_read command left lawful)) e) in
+        by_answer outcome some first step
 
 -- the lines of commands and a rest are those of what they answer
-answered-lines : (commands : List Command) (rest : List ℕ) (s : ScriptState) → IsScript s.rest commands rest → Bytes s.rest
-    → linesLeft s ≡ linesOf (s.lines + 1) (answers s.store commands rest)
-answered-lines [] rest s i h = rest-lines s rest i.bytes (let same : Bytes rest = rw (← i.bytes) h in same) i.ends
-answered-lines (command ∷ commands) rest s i h =
+answered_lines : (commands : List Command) (rest : List ℕ) (s : ScriptState) → IsScript s.rest commands rest → Bytes s.rest
+    → lines_left s ≡ listed_lines (s.lines + 1) (answers s.store commands rest)
+answered_lines [] rest s i h = rest_lines s rest i.bytes (let same : Bytes rest = rw (← i.bytes) h in same) i.ends
+answered_lines (command ∷ commands) rest s i h =
     let left = concat (map written commands) ++ rest in
     let whole : s.rest ≡ written command ++ left = i.bytes ∙ append_assoc (written command) (concat (map written commands)) rest in
     let later : IsScript left commands rest = record { lawful = All-tail Lawful command commands i.lawful; bytes = refl; ends = i.ends } in
     let all : Bytes (written command ++ left) = rw (← whole) h in
-    command-lines command left s (λ store. answers store commands rest) (All-head Lawful command commands i.lawful) whole
-    (λ store. answered-lines commands rest (record { rest = left; lines = s.lines + 1; store = store }) later (bytes-after (written command) left all))
+    command_lines command left s (λ store. answers store commands rest) (All-head Lawful command commands i.lawful) whole
+    (λ store. answered_lines commands rest (record { rest = left; lines = s.lines + 1; store = store }) later (bytes_after (written command) left all))
 
 -- every script is commands and a rest
-every-script : (n : ℕ) (script : List ℕ) → length script < n → Bytes script → (commands : List Command) × (rest : List ℕ) × IsScript script commands rest
-every-script zero script small h = absurd (omega arith)
-every-script (suc n) script small h = by-read (readCommand script) refl (every-script n)
+every_script : (n : ℕ) (script : List ℕ) → length script < n → Bytes script → (commands : List Command) × (rest : List ℕ) × IsScript script commands rest
+every_script zero script small h = absurd (omega arith)
+every_script (suc n) script small h = by_read (read_command script) refl (every_script n)
   where
-    by-read : (r : Result (Command × List ℕ) Refusal) → readCommand script ≡ r
+    by_read : (r : Result (Command × List ℕ) Refusal) → read_command script ≡ r
         → ((left : List ℕ) → length left < n → Bytes left → (commands : List Command) × (rest : List ℕ) × IsScript left commands rest)
         → (commands : List Command) × (rest : List ℕ) × IsScript script commands rest
-    by-read (Err why) e more =
-        ([], script, record { lawful = All-nil Lawful; bytes = refl; ends = λ command after lawful is. let ok = ap readCommand is ∙ written-read command after lawful in absurd (cc (ok, e)) })
-    by-read (Ok p) e more =
-        let w = read-written script p h e in
-        let less = read-shorter script p (sym e) in
+    by_read (Err why) e more =
+        ([], script, record { lawful = All-nil Lawful; bytes = refl; ends = λ command after lawful is. let ok = ap read_command is ∙ written_read command after lawful in absurd (cc (ok, e)) })
+    by_read (Ok p) e more =
+        let w = read_written script p h e in
+        let less = read_shorter script p (sym e) in
         let all : Bytes (written p.0 ++ p.1) = rw (← w.1) h in
-        let next = more p.1 (omega arith) (bytes-after (written p.0) p.1 all) in (
+        let next = more p.1 (omega arith) (bytes_after (written p.0) p.1 all) in (
           p.0 ∷ next.0,
           next.1,
           record {
@@ -138,19 +138,19 @@ every-script (suc n) script small h = by-read (readCommand script) refl (every-s
         )
 
 -- the first bytes of bytes
-bytes-before : (n : ℕ) (bytes : List ℕ) → Bytes bytes → Bytes (take n bytes)
-bytes-before zero bytes h i = omega arith
-bytes-before (suc n) [] h i = omega arith
-bytes-before (suc n) (b ∷ bytes) h zero = h 0
-bytes-before (suc n) (b ∷ bytes) h (suc i) = bytes-before n bytes (λ j. h (suc j)) i
+bytes_before : (n : ℕ) (bytes : List ℕ) → Bytes bytes → Bytes (take n bytes)
+bytes_before zero bytes h i = omega arith
+bytes_before (suc n) [] h i = omega arith
+bytes_before (suc n) (b ∷ bytes) h zero = h 0
+bytes_before (suc n) (b ∷ bytes) h (suc i) = bytes_before n bytes (λ j. h (suc j)) i
 
 -- the lines of a script are those of its commands' answers
-lines-due : (bytes : List ℕ) (commands : List Command) (rest : List ℕ) → Bytes bytes → IsScript (take 65535 bytes) commands rest → lines_of bytes ≡ linesFor commands rest
-lines-due bytes commands rest h i = sym (lines-begun bytes) ∙ answered-lines commands rest (begun bytes) i (bytes-before 65535 bytes h)
+lines_due : (bytes : List ℕ) (commands : List Command) (rest : List ℕ) → Bytes bytes → IsScript (take 65535 bytes) commands rest → lines_of bytes ≡ lines_for commands rest
+lines_due bytes commands rest h i = sym (lines_begun bytes) ∙ answered_lines commands rest (begun bytes) i (bytes_before 65535 bytes h)
 
-pub listing-law : (bytes : List ℕ) → Bytes bytes → EachShort (lines_of bytes) → ListingLaw bytes (listing bytes)
-listing-law bytes h short = record {
-  every = every-script (suc (length (take 65535 bytes))) (take 65535 bytes) (omega arith) (bytes-before 65535 bytes h);
-  lines = λ commands rest i. ap concat (lines-due bytes commands rest h i);
-  short = λ commands rest i. subst EachShort (lines-due bytes commands rest h i) short;
+pub listing_law : (bytes : List ℕ) → Bytes bytes → EachShort (lines_of bytes) → ListingLaw bytes (listing bytes)
+listing_law bytes h short = record {
+  every = every_script (suc (length (take 65535 bytes))) (take 65535 bytes) (omega arith) (bytes_before 65535 bytes h);
+  lines = λ commands rest i. ap concat (lines_due bytes commands rest h i);
+  short = λ commands rest i. subst EachShort (lines_due bytes commands rest h i) short;
 }

@@ -7,171 +7,171 @@ use Rattle.stamps.specs.declared.refusal.Refusal.TheVariants.{BadLayout}
 use Rattle.stamps.specs.Outside.{and_then}
 use Rattle.model.specs.Groups as model
 use Rattle.model.specs.Groups.{GroupState}
-use Rattle.group.specs.Layouts.{checkedCounts}
+use Rattle.group.specs.Layouts.{checked_counts}
 use Rattle.commands.specs.declared.command.Command.{Command}
 use Rattle.commands.specs.declared.command.Command.TheVariants.{Layout, OpenSession, Tell, Put, Get, Heartbeat, Deliver, Report, Stabilise, Tidy, Lead, View}
-use Rattle.commands.specs.Commands.{readCommand}
-use Rattle.commands.proofs.Shorter.{read-shorter}
-use Rattle.script.specs.Counting.{goesOn, leftAfter, leftBy}
-use Rattle.script.specs.Scripts.{ScriptState, begun, linesAfter, linesFrom, next_at, numbered, stepped, steppedBy, steppedTo}
-use Rattle.script.proofs.Stepping.{begun-within, length-begun}
-use Rattle.script.specs.Stores.{Clock, raw, hybrid, Marks, one, each, Store, unmade, made, madeStore, obeyed, opens, withClock, withMarks}
+use Rattle.commands.specs.Commands.{read_command}
+use Rattle.commands.proofs.Shorter.{read_shorter}
+use Rattle.script.specs.Counting.{goes_on, left_after, left_by}
+use Rattle.script.specs.Scripts.{ScriptState, begun, lines_after, lines_from, next_at, numbered, stepped, stepped_by, stepped_to}
+use Rattle.script.proofs.Stepping.{begun_within, length_begun}
+use Rattle.script.specs.Stores.{Clock, raw, hybrid, Marks, one, each, Store, unmade, made, made_store, obeyed, opens, with_clock, with_marks}
 
 -- whether a group was made
-abbrev pub isMade : Store → Bool
-isMade unmade = false
-isMade (made clock marks g) = true
+abbrev pub is_made : Store → Bool
+is_made unmade = false
+is_made (made clock marks g) = true
 
 -- how many lines follow, at most n of them
-abbrev pub countFrom : ℕ → Bool → List ℕ → ℕ
-countFrom zero m bytes = 0
-countFrom (suc n) m [] = 0
-countFrom (suc n) m (b ∷ bytes) = suc (countFrom n true (leftAfter m (b ∷ bytes)))
+abbrev pub count_from : ℕ → Bool → List ℕ → ℕ
+count_from zero m bytes = 0
+count_from (suc n) m [] = 0
+count_from (suc n) m (b ∷ bytes) = suc (count_from n true (left_after m (b ∷ bytes)))
 
 -- what goes on after a command: nothing is left, or a group was made
 abbrev pub GoesOnMade : ScriptState → Type 0
-GoesOnMade s = (n : ℕ) → countFrom n (isMade s.store) s.rest ≡ countFrom n true s.rest
+GoesOnMade s = (n : ℕ) → count_from n (is_made s.store) s.rest ≡ count_from n true s.rest
 
-none-left : (m : Bool) (n : ℕ) → countFrom n m [] ≡ countFrom n true []
-none-left m zero = refl
-none-left m (suc n) = refl
+none_left : (m : Bool) (n : ℕ) → count_from n m [] ≡ count_from n true []
+none_left m zero = refl
+none_left m (suc n) = refl
 
 -- what a group is made of, if one is made
 abbrev MadeOr : Result Store Refusal → Type 0
-MadeOr (Ok s) = isMade s ≡ true
+MadeOr (Ok s) = is_made s ≡ true
 MadeOr (Err why) = Unit {0}
 
-made-marked : (clock : Clock) (letter : ℕ) (g : GroupState) → MadeOr (withMarks clock letter g)
-made-marked clock letter g =
+made_marked : (clock : Clock) (letter : ℕ) (g : GroupState) → MadeOr (with_marks clock letter g)
+made_marked clock letter g =
     cond_both (letter == 79) (Ok (made clock one g)) _ MadeOr (λ _. refl) (λ _. cond_both (letter == 69) (Ok (made clock each g)) (Err BadLayout) MadeOr (λ _. refl) (λ _. tt))
 
-made-clocked : (letter marks : ℕ) (g : GroupState) → MadeOr (withClock letter marks g)
-made-clocked letter marks g =
-    cond_both (letter == 82) (withMarks raw marks g) _ MadeOr (λ _. made-marked raw marks g)
-    (λ _. cond_both (letter == 72) (withMarks hybrid marks g) (Err BadLayout) MadeOr (λ _. made-marked hybrid marks g) (λ _. tt))
+made_clocked : (letter marks : ℕ) (g : GroupState) → MadeOr (with_clock letter marks g)
+made_clocked letter marks g =
+    cond_both (letter == 82) (with_marks raw marks g) _ MadeOr (λ _. made_marked raw marks g)
+    (λ _. cond_both (letter == 72) (with_marks hybrid marks g) (Err BadLayout) MadeOr (λ _. made_marked hybrid marks g) (λ _. tt))
 
-with-counts : (r : Result (ℕ × ℕ) Refusal) (f : ℕ × ℕ → Result Store Refusal) → ((x : ℕ × ℕ) → MadeOr (f x)) → MadeOr (and_then r f)
-with-counts (Ok x) f h = h x
-with-counts (Err why) f h = tt
+with_counts : (r : Result (ℕ × ℕ) Refusal) (f : ℕ × ℕ → Result Store Refusal) → ((x : ℕ × ℕ) → MadeOr (f x)) → MadeOr (and_then r f)
+with_counts (Ok x) f h = h x
+with_counts (Err why) f h = tt
 
-made-or : (command : Command) → MadeOr (madeStore command)
-made-or (Layout sites partitions clock marks) = with-counts (checkedCounts sites partitions) (λ counts. withClock clock marks (model.made counts.0 counts.1)) (λ counts. made-clocked clock marks (model.made counts.0 counts.1))
-made-or (OpenSession site) = tt
-made-or (Tell site partition time) = tt
-made-or (Put session key kind amount) = tt
-made-or (Get session key) = tt
-made-or (Heartbeat site partition) = tt
-made-or (Deliver from to partition) = tt
-made-or (Report site partition) = tt
-made-or (Stabilise site partition) = tt
-made-or (Tidy site partition) = tt
-made-or (Lead site partition) = tt
-made-or (View session partition first second) = tt
+made_or : (command : Command) → MadeOr (made_store command)
+made_or (Layout sites partitions clock marks) = with_counts (checked_counts sites partitions) (λ counts. with_clock clock marks (model.made counts.0 counts.1)) (λ counts. made_clocked clock marks (model.made counts.0 counts.1))
+made_or (OpenSession site) = tt
+made_or (Tell site partition time) = tt
+made_or (Put session key kind amount) = tt
+made_or (Get session key) = tt
+made_or (Heartbeat site partition) = tt
+made_or (Deliver from to partition) = tt
+made_or (Report site partition) = tt
+made_or (Stabilise site partition) = tt
+made_or (Tidy site partition) = tt
+made_or (Lead site partition) = tt
+made_or (View session partition first second) = tt
 
 -- what a step leaves is what the commands alone leave
 pub record Follows (left : List ℕ) (after : ScriptState) : Type 0 where
   pub rest : after.rest ≡ left
-  pub goes-on : GoesOnMade after
+  pub goes_on_lem : GoesOnMade after
 
-first-follows : (s : ScriptState) (rest : List ℕ) (m : Result Store Refusal) → MadeOr m → Follows (cond (is_ok m) rest []) (steppedTo s rest (opens m)).1
-first-follows s rest (Err why) h = record { rest = refl; goes-on = none-left false }
-first-follows s rest (Ok unmade) h = absurd cc
-first-follows s rest (Ok (made clock marks g)) h = record { rest = refl; goes-on = λ n. refl }
+first_follows : (s : ScriptState) (rest : List ℕ) (m : Result Store Refusal) → MadeOr m → Follows (cond (is_ok m) rest []) (stepped_to s rest (opens m)).1
+first_follows s rest (Err why) h = record { rest = refl; goes_on_lem = none_left false }
+first_follows s rest (Ok unmade) h = absurd cc
+first_follows s rest (Ok (made clock marks g)) h = record { rest = refl; goes_on_lem = λ n. refl }
 
-made-follows : (s : ScriptState) (rest : List ℕ) (clock : Clock) (marks : Marks) (g : GroupState) (command : Command)
-    → Follows (cond (goesOn true command) rest []) (steppedTo s rest (obeyed (made clock marks g) command)).1
-made-follows s rest clock marks g (Layout sites partitions c m) = record { rest = refl; goes-on = λ n. refl }
-made-follows s rest clock marks g (OpenSession site) = record { rest = refl; goes-on = λ n. refl }
-made-follows s rest clock marks g (Tell site partition time) = record { rest = refl; goes-on = λ n. refl }
-made-follows s rest clock marks g (Put session key kind amount) = record { rest = refl; goes-on = λ n. refl }
-made-follows s rest clock marks g (Get session key) = record { rest = refl; goes-on = λ n. refl }
-made-follows s rest clock marks g (Heartbeat site partition) = record { rest = refl; goes-on = λ n. refl }
-made-follows s rest clock marks g (Deliver from to partition) = record { rest = refl; goes-on = λ n. refl }
-made-follows s rest clock marks g (Report site partition) = record { rest = refl; goes-on = λ n. refl }
-made-follows s rest clock marks g (Stabilise site partition) = record { rest = refl; goes-on = λ n. refl }
-made-follows s rest clock marks g (Tidy site partition) = record { rest = refl; goes-on = λ n. refl }
-made-follows s rest clock marks g (Lead site partition) = record { rest = refl; goes-on = λ n. refl }
-made-follows s rest clock marks g (View session partition first second) = record { rest = refl; goes-on = λ n. refl }
+made_follows : (s : ScriptState) (rest : List ℕ) (clock : Clock) (marks : Marks) (g : GroupState) (command : Command)
+    → Follows (cond (goes_on true command) rest []) (stepped_to s rest (obeyed (made clock marks g) command)).1
+made_follows s rest clock marks g (Layout sites partitions c m) = record { rest = refl; goes_on_lem = λ n. refl }
+made_follows s rest clock marks g (OpenSession site) = record { rest = refl; goes_on_lem = λ n. refl }
+made_follows s rest clock marks g (Tell site partition time) = record { rest = refl; goes_on_lem = λ n. refl }
+made_follows s rest clock marks g (Put session key kind amount) = record { rest = refl; goes_on_lem = λ n. refl }
+made_follows s rest clock marks g (Get session key) = record { rest = refl; goes_on_lem = λ n. refl }
+made_follows s rest clock marks g (Heartbeat site partition) = record { rest = refl; goes_on_lem = λ n. refl }
+made_follows s rest clock marks g (Deliver from to partition) = record { rest = refl; goes_on_lem = λ n. refl }
+made_follows s rest clock marks g (Report site partition) = record { rest = refl; goes_on_lem = λ n. refl }
+made_follows s rest clock marks g (Stabilise site partition) = record { rest = refl; goes_on_lem = λ n. refl }
+made_follows s rest clock marks g (Tidy site partition) = record { rest = refl; goes_on_lem = λ n. refl }
+made_follows s rest clock marks g (Lead site partition) = record { rest = refl; goes_on_lem = λ n. refl }
+made_follows s rest clock marks g (View session partition first second) = record { rest = refl; goes_on_lem = λ n. refl }
 
-pub step-follows : (s : ScriptState) → Follows (leftAfter (isMade s.store) s.rest) (stepped s).1
-step-follows s = by-read (readCommand s.rest)
+pub step_follows : (s : ScriptState) → Follows (left_after (is_made s.store) s.rest) (stepped s).1
+step_follows s = by_read (read_command s.rest)
   where
-    obeys : (st : Store) (command : Command) (rest : List ℕ) → Follows (cond (goesOn (isMade st) command) rest []) (steppedTo s rest (obeyed st command)).1
-    obeys unmade command rest = first-follows s rest (madeStore command) (made-or command)
-    obeys (made clock marks g) command rest = made-follows s rest clock marks g command
+    obeys : (st : Store) (command : Command) (rest : List ℕ) → Follows (cond (goes_on (is_made st) command) rest []) (stepped_to s rest (obeyed st command)).1
+    obeys unmade command rest = first_follows s rest (made_store command) (made_or command)
+    obeys (made clock marks g) command rest = made_follows s rest clock marks g command
 
-    by-read : (r : Result (Command × List ℕ) Refusal) → Follows (leftBy (isMade s.store) r) (steppedBy s r).1
-    by-read (Err why) = record { rest = refl; goes-on = λ n. none-left (isMade s.store) n }
-    by-read (Ok (command, rest)) = obeys s.store command rest
+    by_read : (r : Result (Command × List ℕ) Refusal) → Follows (left_by (is_made s.store) r) (stepped_by s r).1
+    by_read (Err why) = record { rest = refl; goes_on_lem = λ n. none_left (is_made s.store) n }
+    by_read (Ok (command, rest)) = obeys s.store command rest
 
 -- the listing has as many lines as the commands alone say
-pub lines-count : (n : ℕ) (s : ScriptState) → length (linesFrom n s) ≡ countFrom n (isMade s.store) s.rest
-lines-count zero s = refl
-lines-count (suc n) s = by-rest s.rest refl (lines-count n)
+pub lines_count : (n : ℕ) (s : ScriptState) → length (lines_from n s) ≡ count_from n (is_made s.store) s.rest
+lines_count zero s = refl
+lines_count (suc n) s = by_rest s.rest refl (lines_count n)
   where
-    by-rest : (bytes : List ℕ) → s.rest ≡ bytes → ((after : ScriptState) → length (linesFrom n after) ≡ countFrom n (isMade after.store) after.rest)
-        → length (linesAfter (linesFrom n) (next_at s bytes)) ≡ countFrom (suc n) (isMade s.store) bytes
-    by-rest [] e more = refl
-    by-rest (b ∷ bytes) e more =
+    by_rest : (bytes : List ℕ) → s.rest ≡ bytes → ((after : ScriptState) → length (lines_from n after) ≡ count_from n (is_made after.store) after.rest)
+        → length (lines_after (lines_from n) (next_at s bytes)) ≡ count_from (suc n) (is_made s.store) bytes
+    by_rest [] e more = refl
+    by_rest (b ∷ bytes) e more =
         let after = (numbered b (stepped s)).1 in
-        let f = step-follows s in
-        ap (λ k. suc k) (more after ∙ f.goes-on n ∙ ap (countFrom n true) (f.rest ∙ ap (leftAfter (isMade s.store)) e))
+        let f = step_follows s in
+        ap (λ k. suc k) (more after ∙ f.goes_on_lem n ∙ ap (count_from n true) (f.rest ∙ ap (left_after (is_made s.store)) e))
 
 -- what is left after a command is shorter
-pub left-shorter : (m : Bool) (bytes : List ℕ) → 0 < length bytes → length (leftAfter m bytes) < length bytes
-left-shorter m bytes some = by-read (readCommand bytes) refl
+pub left_shorter : (m : Bool) (bytes : List ℕ) → 0 < length bytes → length (left_after m bytes) < length bytes
+left_shorter m bytes some = by_read (read_command bytes) refl
   where
-    by-read : (r : Result (Command × List ℕ) Refusal) → r ≡ readCommand bytes → length (leftBy m r) < length bytes
-    by-read (Err why) e = some
-    by-read (Ok (command, rest)) e = cond_both (goesOn m command) rest [] (λ left. length left < length bytes) (λ _. read-shorter bytes (command, rest) e) (λ _. some)
+    by_read : (r : Result (Command × List ℕ) Refusal) → r ≡ read_command bytes → length (left_by m r) < length bytes
+    by_read (Err why) e = some
+    by_read (Ok (command, rest)) e = cond_both (goes_on m command) rest [] (λ left. length left < length bytes) (λ _. read_shorter bytes (command, rest) e) (λ _. some)
 
 -- any number of commands that is not below the number of bytes gives the same count
-pub count-enough : (n k : ℕ) (m : Bool) (bytes : List ℕ) → length bytes ≤ n → length bytes ≤ k → countFrom n m bytes ≡ countFrom k m bytes
-count-enough zero zero m bytes hn hk = refl
-count-enough zero (suc k) m [] hn hk = refl
-count-enough zero (suc k) m (b ∷ bytes) hn hk = absurd (omega arith)
-count-enough (suc n) zero m [] hn hk = refl
-count-enough (suc n) zero m (b ∷ bytes) hn hk = absurd (omega arith)
-count-enough (suc n) (suc k) m [] hn hk = refl
-count-enough (suc n) (suc k) m (b ∷ bytes) hn hk =
-    let less = left-shorter m (b ∷ bytes) (omega arith) in
-    ap (λ c. suc c) (count-enough n k true (leftAfter m (b ∷ bytes)) (omega arith) (omega arith))
+pub count_enough : (n k : ℕ) (m : Bool) (bytes : List ℕ) → length bytes ≤ n → length bytes ≤ k → count_from n m bytes ≡ count_from k m bytes
+count_enough zero zero m bytes hn hk = refl
+count_enough zero (suc k) m [] hn hk = refl
+count_enough zero (suc k) m (b ∷ bytes) hn hk = absurd (omega arith)
+count_enough (suc n) zero m [] hn hk = refl
+count_enough (suc n) zero m (b ∷ bytes) hn hk = absurd (omega arith)
+count_enough (suc n) (suc k) m [] hn hk = refl
+count_enough (suc n) (suc k) m (b ∷ bytes) hn hk =
+    let less = left_shorter m (b ∷ bytes) (omega arith) in
+    ap (λ c. suc c) (count_enough n k true (left_after m (b ∷ bytes)) (omega arith) (omega arith))
 
 -- one command more
-pub count-turn : (m : Bool) (bytes left : List ℕ) → 0 < length bytes → left ≡ leftAfter m bytes → countFrom (length bytes) m bytes ≡ countFrom (length left) true left + 1
-count-turn m [] left some e = absurd (omega arith)
-count-turn m (b ∷ bytes) left some e =
-    let less = left-shorter m (b ∷ bytes) some in
+pub count_turn : (m : Bool) (bytes left : List ℕ) → 0 < length bytes → left ≡ left_after m bytes → count_from (length bytes) m bytes ≡ count_from (length left) true left + 1
+count_turn m [] left some e = absurd (omega arith)
+count_turn m (b ∷ bytes) left some e =
+    let less = left_shorter m (b ∷ bytes) some in
     let same = ap length e in
-    let enough = count-enough (length bytes) (length left) true (leftAfter m (b ∷ bytes)) (omega arith) (omega arith) in
-    omega (arith, enough, ap (countFrom (length left) true) e)
+    let enough = count_enough (length bytes) (length left) true (left_after m (b ∷ bytes)) (omega arith) (omega arith) in
+    omega (arith, enough, ap (count_from (length left) true) e)
 
 -- no more lines than bytes
-pub count-few : (n : ℕ) (m : Bool) (bytes : List ℕ) → countFrom n m bytes ≤ length bytes
-count-few zero m bytes = omega arith
-count-few (suc n) m [] = omega arith
-count-few (suc n) m (b ∷ bytes) =
-    let less = left-shorter m (b ∷ bytes) (omega arith) in
-    let few = count-few n true (leftAfter m (b ∷ bytes)) in
+pub count_few : (n : ℕ) (m : Bool) (bytes : List ℕ) → count_from n m bytes ≤ length bytes
+count_few zero m bytes = omega arith
+count_few (suc n) m [] = omega arith
+count_few (suc n) m (b ∷ bytes) =
+    let less = left_shorter m (b ∷ bytes) (omega arith) in
+    let few = count_few n true (left_after m (b ∷ bytes)) in
     omega arith
 
 -- nothing follows nothing
-pub count-none : (m : Bool) (bytes : List ℕ) → length bytes ≡ 0 → countFrom (length bytes) m bytes ≡ 0
-count-none m [] e = refl
-count-none m (b ∷ bytes) e = absurd (omega arith)
+pub count_none : (m : Bool) (bytes : List ℕ) → length bytes ≡ 0 → count_from (length bytes) m bytes ≡ 0
+count_none m [] e = refl
+count_none m (b ∷ bytes) e = absurd (omega arith)
 
 -- a script has no more lines than bytes
-pub lines-few : (bytes : List ℕ) → length (linesFrom (length bytes) (begun bytes)) ≤ length bytes
-lines-few bytes =
-    let count = lines-count (length bytes) (begun bytes) in
-    let few = count-few (length bytes) false (begun bytes).rest in
-    let within = begun-within bytes in
+pub lines_few : (bytes : List ℕ) → length (lines_from (length bytes) (begun bytes)) ≤ length bytes
+lines_few bytes =
+    let count = lines_count (length bytes) (begun bytes) in
+    let few = count_few (length bytes) false (begun bytes).rest in
+    let within = begun_within bytes in
     omega arith
 
 -- and no more than 65,535
-pub lines-most : (bytes : List ℕ) → length (linesFrom (length bytes) (begun bytes)) ≤ 65535
-lines-most bytes =
-    let count = lines-count (length bytes) (begun bytes) in
-    let few = count-few (length bytes) false (begun bytes).rest in
-    let most = length-begun bytes in
+pub lines_most : (bytes : List ℕ) → length (lines_from (length bytes) (begun bytes)) ≤ 65535
+lines_most bytes =
+    let count = lines_count (length bytes) (begun bytes) in
+    let few = count_few (length bytes) false (begun bytes).rest in
+    let most = length_begun bytes in
     omega arith

@@ -4,10 +4,10 @@ use Rattle.std.specs.Fmt.{signed_decimal}
 use Rattle.std.specs.Option.{option_map}
 use Rattle.stamps.specs.declared.refusal.Refusal.{Refusal}
 use Rattle.stamps.specs.Refusals.{number_of}
-use Rattle.stamps.specs.Stamps.{timeOf, count_of}
+use Rattle.stamps.specs.Stamps.{time_of, count_of}
 use Rattle.servers.specs.Values.{Worth, gone, price, percent, part, sheet}
 use Rattle.model.specs.Events.{Shown}
-use Rattle.group.specs.Answers.{shownState, shownNumbers}
+use Rattle.group.specs.Answers.{shown_state, shown_numbers}
 use Rattle.script.specs.declared.answer.Answer.{Answer}
 use Rattle.script.specs.declared.answer.Answer.TheVariants as answer
 
@@ -26,43 +26,43 @@ said answer.Done = done
 said (answer.Count n) = count n
 said (answer.Number n) = number n
 said (answer.Stamped s) = stamped s.value
-said (answer.Shown v) = shown (option_map shownState v)
-said (answer.Both a b) = both (shownNumbers a) (shownNumbers b)
+said (answer.Shown v) = shown (option_map shown_state v)
+said (answer.Both a b) = both (shown_numbers a) (shown_numbers b)
 said (answer.Refused why) = refused why
 
 -- a stamp as time.count
-abbrev pub stampText : ℕ → List ℕ
-stampText s = decimal (timeOf s) ++ (codes "." ++ decimal (count_of s))
+abbrev pub stamp_text : ℕ → List ℕ
+stamp_text s = decimal (time_of s) ++ (codes "." ++ decimal (count_of s))
 
-abbrev pub refusalText : Refusal → List ℕ
-refusalText why = codes "no " ++ decimal (number_of why)
+abbrev pub refusal_text : Refusal → List ℕ
+refusal_text why = codes "no " ++ decimal (number_of why)
 
-abbrev pub valueText : Worth → List ℕ
-valueText gone = codes "gone"
-valueText (price cents) = codes "price " ++ decimal cents
-valueText (percent hundredths) = codes "percent " ++ decimal hundredths
-valueText part = codes "basis part"
-valueText sheet = codes "basis sheet"
+abbrev pub value_text : Worth → List ℕ
+value_text gone = codes "gone"
+value_text (price cents) = codes "price " ++ decimal cents
+value_text (percent hundredths) = codes "percent " ++ decimal hundredths
+value_text part = codes "basis part"
+value_text sheet = codes "basis sheet"
 
 -- a version as its value, its stamp and its source
-abbrev pub versionText : Shown → List ℕ
-versionText v = valueText v.value ++ (codes " " ++ (stampText v.stamp ++ (codes " " ++ decimal v.source)))
+abbrev pub version_text : Shown → List ℕ
+version_text v = value_text v.value ++ (codes " " ++ (stamp_text v.stamp ++ (codes " " ++ decimal v.source)))
 
-abbrev pub shownText : Option Shown → List ℕ
-shownText None = codes "none"
-shownText (Some v) = versionText v
+abbrev pub shown_text : Option Shown → List ℕ
+shown_text None = codes "none"
+shown_text (Some v) = version_text v
 
 -- the answer of one read
-abbrev pub readText : Result (Option Shown) Refusal → List ℕ
-readText (Ok v) = shownText v
-readText (Err why) = refusalText why
+abbrev pub read_text : Result (Option Shown) Refusal → List ℕ
+read_text (Ok v) = shown_text v
+read_text (Err why) = refusal_text why
 
 -- what is printed of an answer
 abbrev pub printed : Said → List ℕ
 printed done = codes "ok"
 printed (count n) = decimal n
 printed (number n) = signed_decimal n
-printed (stamped s) = stampText s
-printed (shown v) = shownText v
-printed (both a b) = readText a ++ (codes " / " ++ readText b)
-printed (refused why) = refusalText why
+printed (stamped s) = stamp_text s
+printed (shown v) = shown_text v
+printed (both a b) = read_text a ++ (codes " / " ++ read_text b)
+printed (refused why) = refusal_text why

@@ -1,14 +1,14 @@
 -- That a store keeps the promises, at each of the built clock rules and kinds of mark.
 use Rattle.std.specs.Prelude.{Ok, Err, Result}
 use Rattle.stamps.specs.declared.refusal.Refusal.{Refusal}
-use Rattle.model.specs.GroupStore.{groupStore}
+use Rattle.model.specs.GroupStore.{group_store}
 use Rattle.model.specs.Promises.{KeepsPromises}
-use Rattle.script.specs.Stores.{Store, unmade, made, ruleOf, kindOf}
+use Rattle.script.specs.Stores.{Store, unmade, made, clock_rule_of, mark_kind_of}
 
 -- no group has nothing to keep
 abbrev pub Keeps : Store → Type 0
 Keeps unmade = Unit {0}
-Keeps (made clock marks g) = KeepsPromises (groupStore (ruleOf clock) (kindOf marks) g.sites) g
+Keeps (made clock marks g) = KeepsPromises (group_store (clock_rule_of clock) (mark_kind_of marks) g.sites) g
 
 abbrev pub KeepsOr : Result Store Refusal → Type 0
 KeepsOr (Ok s) = Keeps s

@@ -4,15 +4,15 @@ use Rattle.std.specs.List.{All, concat}
 use Rattle.stamps.specs.declared.refusal.Refusal.{Refusal}
 use Rattle.stamps.specs.declared.refusal.Refusal.TheVariants.{ShortCommand, UnknownLetter}
 use Rattle.commands.specs.declared.command.Command.{Command}
-use Rattle.commands.specs.Commands.{Form, formOf}
+use Rattle.commands.specs.Commands.{Form, form_of}
 use Rattle.commands.specs.Writing.{Lawful, written}
 use Rattle.script.specs.Answers.{Said, refused}
 use Rattle.script.specs.Lines.{line_of}
 use Rattle.script.specs.Stores.{Store, unmade, obeyed}
 
 -- the code of a command's letter
-abbrev pub letterOf : Command → ℕ
-letterOf command = slice_index (written command) 0
+abbrev pub letter_of : Command → ℕ
+letter_of command = slice_index (written command) 0
 
 -- why no command begins with a letter: there is none of it, or too few bytes are left
 abbrev pub unreadable : Option Form → Refusal
@@ -20,28 +20,28 @@ unreadable None = UnknownLetter
 unreadable (Some form) = ShortCommand
 
 -- what a rest answers that begins no command
-abbrev pub restAnswers : List ℕ → List (ℕ × Said)
-restAnswers [] = []
-restAnswers (letter ∷ bytes) = (letter, refused (unreadable (formOf letter))) ∷ []
+abbrev pub rest_answers : List ℕ → List (ℕ × Said)
+rest_answers [] = []
+rest_answers (letter ∷ bytes) = (letter, refused (unreadable (form_of letter))) ∷ []
 
 -- an answer, and those after it; a refusal that ends the listing is the last
-abbrev pub answersFrom : ℕ → (Store → List (ℕ × Said)) → Result Said Refusal × Store → List (ℕ × Said)
-answersFrom letter more (Ok answer, after) = (letter, answer) ∷ more after
-answersFrom letter more (Err why, after) = (letter, refused why) ∷ []
+abbrev pub answers_from : ℕ → (Store → List (ℕ × Said)) → Result Said Refusal × Store → List (ℕ × Said)
+answers_from letter more (Ok answer, after) = (letter, answer) ∷ more after
+answers_from letter more (Err why, after) = (letter, refused why) ∷ []
 
 -- what commands and a rest answer, one after the other, each with the code of its letter
 abbrev pub answers : Store → List Command → List ℕ → List (ℕ × Said)
-answers store [] rest = restAnswers rest
-answers store (command ∷ commands) rest = answersFrom (letterOf command) (λ after. answers after commands rest) (obeyed store command)
+answers store [] rest = rest_answers rest
+answers store (command ∷ commands) rest = answers_from (letter_of command) (λ after. answers after commands rest) (obeyed store command)
 
 -- the lines of answers, numbered from a number on
-abbrev pub linesOf : ℕ → List (ℕ × Said) → List (List ℕ)
-linesOf number [] = []
-linesOf number ((letter, answer) ∷ more) = line_of number letter answer ∷ linesOf (number + 1) more
+abbrev pub listed_lines : ℕ → List (ℕ × Said) → List (List ℕ)
+listed_lines number [] = []
+listed_lines number ((letter, answer) ∷ more) = line_of number letter answer ∷ listed_lines (number + 1) more
 
 -- the lines of a script that is commands and a rest
-abbrev pub linesFor : List Command → List ℕ → List (List ℕ)
-linesFor commands rest = linesOf 1 (answers unmade commands rest)
+abbrev pub lines_for : List Command → List ℕ → List (List ℕ)
+lines_for commands rest = listed_lines 1 (answers unmade commands rest)
 
 -- no line is longer than 96 bytes
 abbrev pub EachShort : List (List ℕ) → Type 0
@@ -58,6 +58,6 @@ pub record ListingLaw (bytes text : List ℕ) : Type 0 where
   -- every script is commands and a rest
   pub every : (commands : List Command) × (rest : List ℕ) × IsScript (take 65535 bytes) commands rest
   -- the text is the lines of their answers
-  pub lines : (commands : List Command) (rest : List ℕ) → IsScript (take 65535 bytes) commands rest → text ≡ concat (linesFor commands rest)
+  pub lines : (commands : List Command) (rest : List ℕ) → IsScript (take 65535 bytes) commands rest → text ≡ concat (lines_for commands rest)
   -- and each of these lines is short
-  pub short : (commands : List Command) (rest : List ℕ) → IsScript (take 65535 bytes) commands rest → EachShort (linesFor commands rest)
+  pub short : (commands : List Command) (rest : List ℕ) → IsScript (take 65535 bytes) commands rest → EachShort (lines_for commands rest)

@@ -1,7 +1,7 @@
 -- The line of a command, and text that grows to a line.
 use Rattle.std.specs.Prelude.{ℕ, List, [], ◌∷◌, ◌++◌, take, Some, None, Option, codes, decimal}
 use Rattle.fixed_vec.specs.Items.{items}
-use Rattle.commands.specs.Commands.{Form, formOf}
+use Rattle.commands.specs.Commands.{Form, form_of}
 use Rattle.script.specs.Answers.{Said, printed}
 use Rattle.script.specs.declared.line.Line.{Line}
 
@@ -13,13 +13,13 @@ abbrev pub onto : List ℕ → List ℕ → List ℕ
 onto text more = take 96 (text ++ more)
 
 -- a letter that no command has is listed as a question mark, 63
-abbrev pub listedAs : Option Form → ℕ → ℕ
-listedAs None letter = 63
-listedAs (Some form) letter = letter
+abbrev pub listed_as : Option Form → ℕ → ℕ
+listed_as None letter = 63
+listed_as (Some form) letter = letter
 
-abbrev pub listedLetter : ℕ → ℕ
-listedLetter letter = listedAs (formOf letter) letter
+abbrev pub listed_letter : ℕ → ℕ
+listed_letter letter = listed_as (form_of letter) letter
 
 -- the line of a command: its number, its letter, its answer
 abbrev pub line_of : ℕ → ℕ → Said → List ℕ
-line_of number letter answer = decimal number ++ (codes " " ++ ((listedLetter letter ∷ []) ++ (codes " " ++ (printed answer ++ codes "\n"))))
+line_of number letter answer = decimal number ++ (codes " " ++ ((listed_letter letter ∷ []) ++ (codes " " ++ (printed answer ++ codes "\n"))))

@@ -14,35 +14,35 @@ use Rattle.script.specs.declared.answer.Answer.{Answer}
 use Rattle.script.specs.Answers.{Said, done, count, number, stamped, shown, both, refused, said}
 
 -- an answer that was given, said in some way, or the refusal
-abbrev pub saidAs : {A : Type 0} → (A → Said) → Result A Refusal → Said
-saidAs say (Ok x) = say x
-saidAs say (Err why) = refused why
+abbrev pub said_as : {A : Type 0} → (A → Said) → Result A Refusal → Said
+said_as say (Ok x) = say x
+said_as say (Err why) = refused why
 
 -- a call with its answer as it is said
 abbrev pub calling : Rule → Kind → GroupState → (c : Call) → (Answered c → Said) → Result Said Refusal × GroupState
 calling rule k g c say =
     let outcome = asked rule k g c in
-    (Ok (saidAs say outcome.0), outcome.1)
+    (Ok (said_as say outcome.0), outcome.1)
 
 -- a snapshot is opened, two keys are read, and it is closed; an opening that is refused is all
-abbrev pub viewedAs : Rule → Kind → Result Ticket Refusal × GroupState → ℕ → ℕ → Said × GroupState
-viewedAs rule k (Err why, g) first second = (refused why, g)
-viewedAs rule k (Ok ticket, g) first second =
+abbrev pub viewed_as : Rule → Kind → Result Ticket Refusal × GroupState → ℕ → ℕ → Said × GroupState
+viewed_as rule k (Err why, g) first second = (refused why, g)
+viewed_as rule k (Ok ticket, g) first second =
     let one = asked rule k g (call.read ticket first) in
     let two = asked rule k one.1 (call.read ticket second) in
     (both one.0 two.0, (asked rule k two.1 (call.close ticket)).1)
 
 abbrev pub viewed : Rule → Kind → GroupState → ℕ → ℕ → ℕ → ℕ → Said × GroupState
-viewed rule k g session partition first second = viewedAs rule k (asked rule k g (call.openSnapshot session partition)) first second
+viewed rule k g session partition first second = viewed_as rule k (asked rule k g (call.open_snapshot session partition)) first second
 
 -- an answer after which the listing goes on
-abbrev pub goingOn : Said × GroupState → Result Said Refusal × GroupState
-goingOn (answer, g) = (Ok answer, g)
+abbrev pub going_on : Said × GroupState → Result Said Refusal × GroupState
+going_on (answer, g) = (Ok answer, g)
 
 -- a command to a group that is made; a second layout is refused, and this ends the listing
 abbrev pub performed : Rule → Kind → GroupState → Command → Result Said Refusal × GroupState
 performed rule k g (Layout sites partitions clock marks) = (Err LayoutMisplaced, g)
-performed rule k g (OpenSession site) = calling rule k g (call.openSession site) count
+performed rule k g (OpenSession site) = calling rule k g (call.open_session site) count
 performed rule k g (Tell site partition time) = calling rule k g (call.tell site partition time) (λ _. done)
 performed rule k g (Put session key kind amount) = calling rule k g (call.put session key kind amount) stamped
 performed rule k g (Get session key) = calling rule k g (call.get session key) shown
@@ -52,9 +52,9 @@ performed rule k g (Report site partition) = calling rule k g (call.report site 
 performed rule k g (Stabilise site partition) = calling rule k g (call.stabilise site partition) (λ _. done)
 performed rule k g (Tidy site partition) = calling rule k g (call.tidy site partition) count
 performed rule k g (Lead site partition) = calling rule k g (call.lead site partition) number
-performed rule k g (View session partition first second) = goingOn (viewed rule k g session partition first second)
+performed rule k g (View session partition first second) = going_on (viewed rule k g session partition first second)
 
 -- the answer of a command, or the refusal that ends the listing
-abbrev pub saidOr : Result Answer Refusal → Result Said Refusal
-saidOr (Ok a) = Ok (said a)
-saidOr (Err why) = Err why
+abbrev pub said_or : Result Answer Refusal → Result Said Refusal
+said_or (Ok a) = Ok (said a)
+said_or (Err why) = Err why

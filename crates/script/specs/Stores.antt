@@ -5,12 +5,12 @@ use Rattle.stamps.specs.declared.refusal.Refusal.TheVariants.{BadLayout, LayoutM
 use Rattle.stamps.specs.Clocks as clocks
 use Rattle.stamps.specs.Outside.{and_then}
 use Rattle.marks.specs.Kinds.{Kind}
-use Rattle.marks.specs.BuiltKinds.{oneKind, eachKind}
+use Rattle.marks.specs.BuiltKinds.{one_kind, each_kind}
 use Rattle.servers.specs.Servers.{Rule}
 use Rattle.model.specs.Groups as model
 use Rattle.model.specs.Groups.{GroupState}
 use Rattle.group.specs.Groups as group
-use Rattle.group.specs.Layouts.{checkedCounts}
+use Rattle.group.specs.Layouts.{checked_counts}
 use Rattle.commands.specs.declared.command.Command.{Command}
 use Rattle.commands.specs.declared.command.Command.TheVariants.{Layout, OpenSession, Tell, Put, Get, Heartbeat, Deliver, Report, Stabilise, Tidy, Lead, View}
 use Rattle.script.specs.declared.any_group.AnyGroup.{AnyGroup}
@@ -26,13 +26,13 @@ pub data Marks : Type 0 where
   one : Marks
   each : Marks
 
-abbrev pub ruleOf : Clock → Rule
-ruleOf raw = clocks.raw
-ruleOf hybrid = clocks.hybrid
+abbrev pub clock_rule_of : Clock → Rule
+clock_rule_of raw = clocks.raw
+clock_rule_of hybrid = clocks.hybrid
 
-abbrev pub kindOf : Marks → Kind
-kindOf one = oneKind
-kindOf each = eachKind
+abbrev pub mark_kind_of : Marks → Kind
+mark_kind_of one = one_kind
+mark_kind_of each = each_kind
 
 -- no group yet, or one with its clock rule and its kind of mark
 pub data Store : Type 0 where
@@ -46,33 +46,33 @@ store (RawEach g) = made raw each (group.view g)
 store (HybridOne g) = made hybrid one (group.view g)
 store (HybridEach g) = made hybrid each (group.view g)
 
-abbrev pub storeOr : Result AnyGroup Refusal → Result Store Refusal
-storeOr (Ok g) = Ok (store g)
-storeOr (Err why) = Err why
+abbrev pub store_or : Result AnyGroup Refusal → Result Store Refusal
+store_or (Ok g) = Ok (store g)
+store_or (Err why) = Err why
 
 -- the letters of the kinds of mark: 79 is O, 69 is E
-abbrev pub withMarks : Clock → ℕ → GroupState → Result Store Refusal
-withMarks clock marks g = cond (marks == 79) (Ok (made clock one g)) (cond (marks == 69) (Ok (made clock each g)) (Err BadLayout))
+abbrev pub with_marks : Clock → ℕ → GroupState → Result Store Refusal
+with_marks clock marks g = cond (marks == 79) (Ok (made clock one g)) (cond (marks == 69) (Ok (made clock each g)) (Err BadLayout))
 
 -- the letters of the clock rules: 82 is R, 72 is H
-abbrev pub withClock : ℕ → ℕ → GroupState → Result Store Refusal
-withClock clock marks g = cond (clock == 82) (withMarks raw marks g) (cond (clock == 72) (withMarks hybrid marks g) (Err BadLayout))
+abbrev pub with_clock : ℕ → ℕ → GroupState → Result Store Refusal
+with_clock clock marks g = cond (clock == 82) (with_marks raw marks g) (cond (clock == 72) (with_marks hybrid marks g) (Err BadLayout))
 
 -- the group that a script's first command makes, which has to be a layout
-abbrev pub madeStore : Command → Result Store Refusal
-madeStore (Layout sites partitions clock marks) =
-    and_then (checkedCounts sites partitions) (λ counts. withClock clock marks (model.made counts.0 counts.1))
-madeStore (OpenSession site) = Err LayoutMisplaced
-madeStore (Tell site partition time) = Err LayoutMisplaced
-madeStore (Put session key kind amount) = Err LayoutMisplaced
-madeStore (Get session key) = Err LayoutMisplaced
-madeStore (Heartbeat site partition) = Err LayoutMisplaced
-madeStore (Deliver from to partition) = Err LayoutMisplaced
-madeStore (Report site partition) = Err LayoutMisplaced
-madeStore (Stabilise site partition) = Err LayoutMisplaced
-madeStore (Tidy site partition) = Err LayoutMisplaced
-madeStore (Lead site partition) = Err LayoutMisplaced
-madeStore (View session partition first second) = Err LayoutMisplaced
+abbrev pub made_store : Command → Result Store Refusal
+made_store (Layout sites partitions clock marks) =
+    and_then (checked_counts sites partitions) (λ counts. with_clock clock marks (model.made counts.0 counts.1))
+made_store (OpenSession site) = Err LayoutMisplaced
+made_store (Tell site partition time) = Err LayoutMisplaced
+made_store (Put session key kind amount) = Err LayoutMisplaced
+made_store (Get session key) = Err LayoutMisplaced
+made_store (Heartbeat site partition) = Err LayoutMisplaced
+made_store (Deliver from to partition) = Err LayoutMisplaced
+made_store (Report site partition) = Err LayoutMisplaced
+made_store (Stabilise site partition) = Err LayoutMisplaced
+made_store (Tidy site partition) = Err LayoutMisplaced
+made_store (Lead site partition) = Err LayoutMisplaced
+made_store (View session partition first second) = Err LayoutMisplaced
 
 -- a first command is done if it makes a group
 abbrev pub opens : Result Store Refusal → Result Said Refusal × Store
@@ -84,5 +84,5 @@ keeping clock marks (answer, g) = (answer, made clock marks g)
 
 -- what a command answers, or the refusal that ends the listing
 abbrev pub obeyed : Store → Command → Result Said Refusal × Store
-obeyed unmade command = opens (madeStore command)
-obeyed (made clock marks g) command = keeping clock marks (performed (ruleOf clock) (kindOf marks) g command)
+obeyed unmade command = opens (made_store command)
+obeyed (made clock marks g) command = keeping clock marks (performed (clock_rule_of clock) (mark_kind_of marks) g command)

@@ -5,8 +5,8 @@ use Rattle.script.specs.Scripts.{listing}
 
 -- Commands, each with its line. Key 2 is a basis and key 3 a percentage; a basis of kind 3 and amount 1 is the whole
 -- sheet, and 1,200 hundredths (4, 176) are 12 percent.
-abbrev pub workedLines : List (List ℕ × List ℕ)
-workedLines =
+abbrev pub worked_lines : List (List ℕ × List ℕ)
+worked_lines =
     (codes "L" ++ 2 ∷ 2 ∷ codes "HE", codes "1 L ok\n")
     ∷ (codes "S" ++ 0 ∷ [], codes "2 S 0\n")
     ∷ (codes "S" ++ 1 ∷ [], codes "3 S 1\n")
@@ -29,12 +29,12 @@ workedLines =
     ∷ (codes "D" ++ 0 ∷ 1 ∷ 0 ∷ [], codes "20 D no 9\n")
     ∷ []
 
-abbrev pub workedScript : List ℕ
-workedScript = concat (map (λ (row : List ℕ × List ℕ). row.0) workedLines)
+abbrev pub worked_script : List ℕ
+worked_script = concat (map (λ (row : List ℕ × List ℕ). row.0) worked_lines)
 
-abbrev pub workedText : List ℕ
-workedText = concat (map (λ (row : List ℕ × List ℕ). row.1) workedLines)
+abbrev pub worked_text : List ℕ
+worked_text = concat (map (λ (row : List ℕ × List ℕ). row.1) worked_lines)
 
 -- the listing of these commands is these lines
 abbrev pub WorkedListing : Type 0
-WorkedListing = listing workedScript ≡ workedText
+WorkedListing = listing worked_script ≡ worked_text

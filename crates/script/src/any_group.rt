@@ -1,8 +1,8 @@
 // A group of any of the clock rules and kinds of mark that are built, or none yet.
 ghost use Rattle.std.specs.Prelude.{◌≡◌, is_ok};
 ghost use Rattle.script.specs.Kept.{KeepsOr};
-ghost use Rattle.script.specs.Steps.{saidOr};
-ghost use Rattle.script.specs.Stores.{obeyed, madeStore, store, storeOr, opens, unmade};
+ghost use Rattle.script.specs.Steps.{said_or};
+ghost use Rattle.script.specs.Stores.{obeyed, made_store, store, store_or, opens, unmade};
 
 use crate::answer::Answer;
 use crate::perform::perform;
@@ -28,7 +28,7 @@ pub(crate) enum AnyGroup {
 impl AnyGroup {
     // Performs a command, or says why the listing ends.
     pub(crate) fn obey(&mut self, command: Command) -> Result<Answer, Refusal>
-        ensures { (saidOr result, store self.new) ≡ obeyed (store self.old) command }
+        ensures { (said_or result, store self.new) ≡ obeyed (store self.old) command }
     {
         match self {
             AnyGroup::Unmade => self.make(command),
@@ -43,7 +43,7 @@ impl AnyGroup {
     #[inline(never)]
     fn make(&mut self, command: Command) -> Result<Answer, Refusal>
         requires { store self.old ≡ unmade }
-        ensures { (saidOr result, store self.new) ≡ opens (madeStore command) }
+        ensures { (said_or result, store self.new) ≡ opens (made_store command) }
     {
         *self = make_group(command)?;
         Ok(Answer::Done)
@@ -53,8 +53,8 @@ impl AnyGroup {
 // The group that a script's first command makes, which has to be a layout. From here on it keeps the promises, whichever
 // clock rule and kind of mark it has.
 pub(crate) fn make_group(command: Command) -> Result<AnyGroup, Refusal>
-    ensures value { storeOr result ≡ madeStore command }
-    ensures promises { KeepsOr (storeOr result) }
+    ensures value { store_or result ≡ made_store command }
+    ensures promises { KeepsOr (store_or result) }
 {
     let Command::Layout {
         sites,
@@ -77,7 +77,7 @@ pub(crate) fn make_group(command: Command) -> Result<AnyGroup, Refusal>
 
 // Whether a script's first command makes a group.
 pub(crate) fn makes_group(command: Command) -> bool
-    ensures { result ≡ is_ok (madeStore command) }
+    ensures { result ≡ is_ok (made_store command) }
 {
     let Command::Layout {
         sites,

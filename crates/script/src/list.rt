@@ -1,8 +1,8 @@
 // The whole listing of a script.
 ghost use Rattle.std.specs.Prelude.{◌≡◌, ◌*◌, ◌<◌, ◌≤◌, ◌++◌, length, take, drop, IfOk, nat_le};
-ghost use Rattle.script.specs.Counting.{goesOn, leftAfter};
+ghost use Rattle.script.specs.Counting.{goes_on, left_after};
 ghost use Rattle.script.specs.Laws.{ListingLaw};
-ghost use Rattle.script.specs.Scripts.{lines_of, listing, listingInto};
+ghost use Rattle.script.specs.Scripts.{lines_of, listing, listing_into};
 
 use crate::any_group::makes_group;
 use crate::line::MOST_BYTES;
@@ -26,7 +26,7 @@ pub fn list(heap: Global, bytes: &[u8]) -> Result<Vec<u8>, AllocError>
 // Writes the lines of a script to the start of the buffer, and answers their length. Refused if the buffer has not 96
 // bytes for each of them.
 pub fn list_into(bytes: &[u8], buffer: &mut [u8]) -> Result<usize, Refusal>
-    ensures value { (result, buffer.new) ≡ listingInto bytes.now buffer.old }
+    ensures value { (result, buffer.new) ≡ listing_into bytes.now buffer.old }
     ensures law { IfOk result (λ len. ListingLaw bytes.now (take len buffer.new)) }
     ensures few { IfOk result (λ len. len ≤ 96 * 65535) }
 {
@@ -80,7 +80,7 @@ fn count_lines(bytes: &[u8]) -> usize
 // What is left after the next command: nothing if it ends the listing.
 fn rest_after<'a>(bytes: &'a [u8], made: bool) -> &'a [u8]
     requires { 0 < length bytes.now }
-    ensures left { result.now ≡ leftAfter made bytes.now }
+    ensures left { result.now ≡ left_after made bytes.now }
     ensures shorter { length result.now < length bytes.now }
 {
     match read(bytes) {
@@ -91,7 +91,7 @@ fn rest_after<'a>(bytes: &'a [u8], made: bool) -> &'a [u8]
 
 // Whether the listing goes on after a command, by whether a group was made before it.
 fn goes_on(command: Command, made: bool) -> bool
-    ensures { result ≡ goesOn made command }
+    ensures { result ≡ goes_on made command }
 {
     if !made {
         return makes_group(command);

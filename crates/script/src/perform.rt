@@ -1,10 +1,10 @@
 // What a command does to a group.
 ghost use Rattle.std.specs.Prelude.{◌≡◌};
-ghost use Rattle.stamps.specs.Checks.{stampNumber};
-ghost use Rattle.group.specs.Answers.{shownNumbers};
+ghost use Rattle.stamps.specs.Checks.{stamp_number};
+ghost use Rattle.group.specs.Answers.{shown_numbers};
 ghost use Rattle.group.specs.Groups.{view};
 ghost use Rattle.script.specs.Answers.{done as Finished, count as Counted, number as Numbered, stamped as Timed, shown as Seen, said};
-ghost use Rattle.script.specs.Steps.{performed, viewed, saidAs, saidOr};
+ghost use Rattle.script.specs.Steps.{performed, viewed, said_as, said_or};
 
 use crate::answer::Answer;
 use commands::command::Command;
@@ -20,7 +20,7 @@ pub(crate) fn perform<C: ClockRule, K: MarkKind>(
     group: &mut Group<C, K>,
     command: Command,
 ) -> Result<Answer, Refusal>
-    ensures { (saidOr result, view group.new) ≡ performed C.ClockRule.answer K.MarkKind.kind (view group.old) command }
+    ensures { (said_or result, view group.new) ≡ performed C.ClockRule.answer K.MarkKind.kind (view group.old) command }
 {
     let answer = match command {
         Command::Layout { .. } => return Err(Refusal::LayoutMisplaced),
@@ -78,7 +78,7 @@ fn view_both<C: ClockRule, K: MarkKind>(
 }
 
 fn done(res: Result<(), Refusal>) -> Answer
-    ensures { said result ≡ saidAs (λ _. Finished) res }
+    ensures { said result ≡ said_as (λ _. Finished) res }
 {
     match res {
         Ok(()) => Answer::Done,
@@ -87,7 +87,7 @@ fn done(res: Result<(), Refusal>) -> Answer
 }
 
 fn stamped(res: Result<Stamp, Refusal>) -> Answer
-    ensures { said result ≡ saidAs Timed (stampNumber res) }
+    ensures { said result ≡ said_as Timed (stamp_number res) }
 {
     match res {
         Ok(stamp) => Answer::Stamped(stamp),
@@ -96,7 +96,7 @@ fn stamped(res: Result<Stamp, Refusal>) -> Answer
 }
 
 fn shown(res: Result<Option<Shown>, Refusal>) -> Answer
-    ensures { said result ≡ saidAs Seen (shownNumbers res) }
+    ensures { said result ≡ said_as Seen (shown_numbers res) }
 {
     match res {
         Ok(version) => Answer::Shown(version),
@@ -105,7 +105,7 @@ fn shown(res: Result<Option<Shown>, Refusal>) -> Answer
 }
 
 fn signed(res: Result<i64, Refusal>) -> Answer
-    ensures { said result ≡ saidAs Numbered res }
+    ensures { said result ≡ said_as Numbered res }
 {
     match res {
         Ok(number) => Answer::Number(number),
@@ -115,7 +115,7 @@ fn signed(res: Result<i64, Refusal>) -> Answer
 
 // A session's number.
 fn number_of(res: Result<u8, Refusal>) -> Answer
-    ensures { said result ≡ saidAs Counted res }
+    ensures { said result ≡ said_as Counted res }
 {
     match res {
         Ok(number) => Answer::Count(u64::from(number)),
@@ -125,7 +125,7 @@ fn number_of(res: Result<u8, Refusal>) -> Answer
 
 // How many there are.
 fn count(res: Result<usize, Refusal>) -> Answer
-    ensures { said result ≡ saidAs Counted res }
+    ensures { said result ≡ said_as Counted res }
 {
     match res {
         Ok(count) => Answer::Count(count as u64),

@@ -17,22 +17,22 @@ kept_map f p (x ∷ xs) = go (p (f x)) (kept_map f p xs)
     go true e = ap (λ ys. f x ∷ ys) e
     go false e = e
 
-pub kept-length : {A : Type 0} (p : A → Bool) (xs : List A) → length (kept p xs) ≤ length xs
-kept-length p [] = omega arith
-kept-length p (x ∷ xs) =
-    let h = kept-length p xs in
+pub kept_length : {A : Type 0} (p : A → Bool) (xs : List A) → length (kept p xs) ≤ length xs
+kept_length p [] = omega arith
+kept_length p (x ∷ xs) =
+    let h = kept_length p xs in
     cond_both (p x) (x ∷ kept p xs) (kept p xs) (λ ys. length ys ≤ length (x ∷ xs)) (λ _. omega arith) (λ _. omega arith)
 
 -- what a table holds when only some of its versions are kept
-pub kept-plain : (p : VersionState → Bool) (xs ys : List Version) → ys ≡ kept (λ v. p (plain v)) xs → map plain ys ≡ kept p (map plain xs)
-kept-plain p xs ys e = ap (map plain) e ∙ kept_map plain p xs
+pub kept_plain : (p : VersionState → Bool) (xs ys : List Version) → ys ≡ kept (λ v. p (plain v)) xs → map plain ys ≡ kept p (map plain xs)
+kept_plain p xs ys e = ap (map plain) e ∙ kept_map plain p xs
 
-pub kept-fewer : (p : VersionState → Bool) (xs ys : List Version) → ys ≡ kept (λ v. p (plain v)) xs → length ys ≤ length xs
-kept-fewer p xs ys e = let same = ap length e in let few = kept-length (λ v. p (plain v)) xs in omega arith
+pub kept_fewer : (p : VersionState → Bool) (xs ys : List Version) → ys ≡ kept (λ v. p (plain v)) xs → length ys ≤ length xs
+kept_fewer p xs ys e = let same = ap length e in let few = kept_length (λ v. p (plain v)) xs in omega arith
 
 -- a push onto a table keeps the version if there is room
-pub push-keeps : (vs : List Version) (v : Version) → map plain (pushed 32 vs v).1 ≡ kept1 (map plain vs) (plain v)
-push-keeps vs v =
+pub push_keeps : (vs : List Version) (v : Version) → map plain (pushed 32 vs v).1 ≡ kept1 (map plain vs) (plain v)
+push_keeps vs v =
     let ws = map plain vs in
     let more = ws ++ plain v ∷ [] in
     let long = length-map vs plain in

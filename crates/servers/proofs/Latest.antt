@@ -3,32 +3,32 @@ use Rattle.std.proofs.Common.{◌≡◌, ℕ, Bool, true, false, cond, ◌&&◌,
 use Rattle.std.proofs.lemmas.Bool.{and_from, and_parts, eq-eqb, eqb-true, false≢true}
 use Rattle.std.proofs.lemmas.Bool.Decides.{nat_tests}
 use Rattle.servers.specs.Versions.{VersionState, later}
-use Rattle.servers.specs.Tables.{better, latest, latestFrom}
+use Rattle.servers.specs.Tables.{better, latest, latest_from}
 use Rattle.servers.specs.Laws.{AsLate, In, IsLatest, Later, Passes}
 
-pub later-gives : (v w : VersionState) → later v w ≡ true → Later v w
-later-gives v w e = (grind (arith, nat_tests), λ s. grind (arith, nat_tests))
+pub later_gives : (v w : VersionState) → later v w ≡ true → Later v w
+later_gives v w e = (grind (arith, nat_tests), λ s. grind (arith, nat_tests))
 
-pub later-not : (v w : VersionState) → later v w ≡ false → AsLate w v
-later-not v w e = (grind (arith, nat_tests), λ s. grind (arith, nat_tests))
+pub later_not : (v w : VersionState) → later v w ≡ false → AsLate w v
+later_not v w e = (grind (arith, nat_tests), λ s. grind (arith, nat_tests))
 
-pub later-from : (v w : VersionState) → Later v w → later v w ≡ true
-later-from v w l = grind (arith, nat_tests, l.0, l.1)
+pub later_from : (v w : VersionState) → Later v w → later v w ≡ true
+later_from v w l = grind (arith, nat_tests, l.0, l.1)
 
-as-late-self : (v : VersionState) → AsLate v v
-as-late-self v = (omega arith, λ s. omega arith)
+as_late_self : (v : VersionState) → AsLate v v
+as_late_self v = (omega arith, λ s. omega arith)
 
-pub as-late-trans : (u v w : VersionState) → AsLate u v → AsLate v w → AsLate u w
-as-late-trans u v w p q = (omega arith, λ s. omega (arith, p.1, q.1))
+pub as_late_trans : (u v w : VersionState) → AsLate u v → AsLate v w → AsLate u w
+as_late_trans u v w p q = (omega arith, λ s. omega (arith, p.1, q.1))
 
-pub as-late-later : (u v w : VersionState) → AsLate u v → Later v w → Later u w
-as-late-later u v w p q = (omega arith, λ s. omega (arith, p.1, q.1))
+pub as_late_later : (u v w : VersionState) → AsLate u v → Later v w → Later u w
+as_late_later u v w p q = (omega arith, λ s. omega (arith, p.1, q.1))
 
-pub later-as-late : (v w : VersionState) → Later v w → AsLate v w
-later-as-late v w l = (l.0, λ s. let h = l.1 s in omega arith)
+pub later_as_late : (v w : VersionState) → Later v w → AsLate v w
+later_as_late v w l = (l.0, λ s. let h = l.1 s in omega arith)
 
-pub not-both : (v w : VersionState) → AsLate v w → Later w v → ⊥
-not-both v w p q =
+pub not_both : (v w : VersionState) → AsLate v w → Later w v → ⊥
+not_both v w p q =
     let same : w.stamp ≡ v.stamp = omega arith in
     let a = p.1 same in
     let b = q.1 (sym same) in
@@ -51,60 +51,60 @@ module _ (shows : VersionState → Bool) (key : ℕ) where
       (o.0, λ w i p. ⊎_elim (λ e. never o.0 (subst (Passes shows key) e p)) (λ j. o.1 w j p) i)
   passed_over found v vs (Some b) worse never o = (
     ⊎_elim inl (λ h. inr (inr h.0, h.1)) o.0,
-    λ w i p. ⊎_elim (λ e. subst (AsLate b) (sym e) (over-found found (subst (Passes shows key) e p) never (λ a f q. as-late-trans b a v (o.2 a f) (worse a f q)))) (λ j. o.1 w j p) i,
+    λ w i p. ⊎_elim (λ e. subst (AsLate b) (sym e) (over_found found (subst (Passes shows key) e p) never (λ a f q. as_late_trans b a v (o.2 a f) (worse a f q)))) (λ j. o.1 w j p) i,
     o.2,
   )
     where
-      over-found : (f : Option VersionState) → Passes shows key v → (f ≡ None → Passes shows key v → ⊥) → ((a : VersionState) → f ≡ Some a → Passes shows key v → AsLate b v) → AsLate b v
-      over-found None p never' late = absurd (never' refl p)
-      over-found (Some a) p never' late = late a refl p
+      over_found : (f : Option VersionState) → Passes shows key v → (f ≡ None → Passes shows key v → ⊥) → ((a : VersionState) → f ≡ Some a → Passes shows key v → AsLate b v) → AsLate b v
+      over_found None p never' late = absurd (never' refl p)
+      over_found (Some a) p never' late = late a refl p
 
   -- v takes the place of what was found
-  taken-up : (found : Option VersionState) (v : VersionState) (vs : List VersionState) (r : Option VersionState)
+  taken_up : (found : Option VersionState) (v : VersionState) (vs : List VersionState) (r : Option VersionState)
       → Passes shows key v → ((a : VersionState) → found ≡ Some a → Later v a)
       → Outcome (Some v) vs r → Outcome found (v ∷ vs) r
-  taken-up found v vs None passes over o = let z : ◌≡◌ {A = ℕ} 0 1 = cc in absurd (omega arith)
-  taken-up found v vs (Some b) passes over o =
+  taken_up found v vs None passes over o = let z : ◌≡◌ {A = ℕ} 0 1 = cc in absurd (omega arith)
+  taken_up found v vs (Some b) passes over o =
       let late = o.2 v refl in (
         inr (⊎_elim (λ e. let same : b ≡ v = cc in (inl same, subst (Passes shows key) (sym same) passes)) (λ h. (inr h.0, h.1)) o.0),
         λ w i p. ⊎_elim (λ e. subst (AsLate b) (sym e) late) (λ j. o.1 w j p) i,
-        λ a e. as-late-trans b v a late (later-as-late v a (over a e)),
+        λ a e. as_late_trans b v a late (later_as_late v a (over a e)),
       )
 
-  better-outcome : (found : Option VersionState) (v : VersionState) (vs : List VersionState) (r : Option VersionState) → Outcome (better shows key found v) vs r → Outcome found (v ∷ vs) r
-  better-outcome None v vs r o = go (eqb v.key key && shows v) refl o
+  better_outcome : (found : Option VersionState) (v : VersionState) (vs : List VersionState) (r : Option VersionState) → Outcome (better shows key found v) vs r → Outcome found (v ∷ vs) r
+  better_outcome None v vs r o = go (eqb v.key key && shows v) refl o
     where
       go : (t : Bool) → (eqb v.key key && shows v) ≡ t → Outcome (cond t (Some v) None) vs r → Outcome None (v ∷ vs) r
       go true e o' =
           let parts = and_parts (eqb v.key key) (shows v) e in
-          taken-up None v vs r (eqb-true v.key key parts.0, parts.1) (λ a n. let z : ◌≡◌ {A = ℕ} 0 1 = cc in absurd (omega arith)) o'
+          taken_up None v vs r (eqb-true v.key key parts.0, parts.1) (λ a n. let z : ◌≡◌ {A = ℕ} 0 1 = cc in absurd (omega arith)) o'
       go false e o' =
           passed_over None v vs r (λ a n. let z : ◌≡◌ {A = ℕ} 0 1 = cc in absurd (omega arith))
           (λ _ p. false≢true (sym e ∙ and_from (eqb v.key key) (shows v) (eq-eqb v.key key p.0) p.1)) o'
-  better-outcome (Some a) v vs r o = go (eqb v.key key && (shows v && later v a)) refl o
+  better_outcome (Some a) v vs r o = go (eqb v.key key && (shows v && later v a)) refl o
     where
       go : (t : Bool) → (eqb v.key key && (shows v && later v a)) ≡ t → Outcome (cond t (Some v) (Some a)) vs r → Outcome (Some a) (v ∷ vs) r
       go true e o' =
           let parts = and_parts (eqb v.key key) (shows v && later v a) e in
           let more = and_parts (shows v) (later v a) parts.1 in
-          taken-up (Some a) v vs r (eqb-true v.key key parts.0, more.0) (λ b n. let same : a ≡ b = cc in subst (Later v) same (later-gives v a more.1)) o'
+          taken_up (Some a) v vs r (eqb-true v.key key parts.0, more.0) (λ b n. let same : a ≡ b = cc in subst (Later v) same (later_gives v a more.1)) o'
       go false e o' =
           passed_over (Some a) v vs r
-          (λ b n p. let same : a ≡ b = cc in subst (λ x. AsLate x v) same (later-not v a (not-later (later v a) refl p)))
+          (λ b n p. let same : a ≡ b = cc in subst (λ x. AsLate x v) same (later_not v a (not_later (later v a) refl p)))
           (λ n p. let z : ◌≡◌ {A = ℕ} 0 1 = cc in absurd (omega arith)) o'
         where
-          not-later : (l : Bool) → later v a ≡ l → Passes shows key v → l ≡ false
-          not-later true is p = absurd (false≢true (sym e ∙ and_from (eqb v.key key) (shows v && later v a) (eq-eqb v.key key p.0) (and_from (shows v) (later v a) p.1 is)))
-          not-later false is p = refl
+          not_later : (l : Bool) → later v a ≡ l → Passes shows key v → l ≡ false
+          not_later true is p = absurd (false≢true (sym e ∙ and_from (eqb v.key key) (shows v && later v a) (eq-eqb v.key key p.0) (and_from (shows v) (later v a) p.1 is)))
+          not_later false is p = refl
 
-  outcome : (found : Option VersionState) (vs : List VersionState) → Outcome found vs (latestFrom shows key found vs)
+  outcome : (found : Option VersionState) (vs : List VersionState) → Outcome found vs (latest_from shows key found vs)
   outcome None [] = (refl, λ v i p. i)
-  outcome (Some a) [] = (inl refl, λ v i p. absurd i, λ b e. let same : a ≡ b = cc in subst (AsLate a) same (as-late-self a))
-  outcome found (v ∷ vs) = better-outcome found v vs (latestFrom shows key (better shows key found v) vs) (outcome (better shows key found v) vs)
+  outcome (Some a) [] = (inl refl, λ v i p. absurd i, λ b e. let same : a ≡ b = cc in subst (AsLate a) same (as_late_self a))
+  outcome found (v ∷ vs) = better_outcome found v vs (latest_from shows key (better shows key found v) vs) (outcome (better shows key found v) vs)
 
   settled : (vs : List VersionState) (r : Option VersionState) → Outcome None vs r → IsLatest shows key vs r
   settled vs None o = o.1
   settled vs (Some b) o = ⊎_elim (λ e. let z : ◌≡◌ {A = ℕ} 0 1 = cc in absurd (omega arith)) (λ h. (h.0, h.1, o.1)) o.0
 
-  pub latest-law : (vs : List VersionState) → IsLatest shows key vs (latest shows key vs)
-  latest-law vs = settled vs (latest shows key vs) (outcome None vs)
+  pub latest_law : (vs : List VersionState) → IsLatest shows key vs (latest shows key vs)
+  latest_law vs = settled vs (latest shows key vs) (outcome None vs)

@@ -5,7 +5,7 @@ use Rattle.stamps.specs.Rows.{same}
 use Rattle.servers.specs.Values.{gone}
 use Rattle.servers.specs.Versions.{VersionState, plain}
 use Rattle.servers.specs.declared.version.Version.{Version}
-use Rattle.servers.specs.Tables.{better, latest, latestFrom}
+use Rattle.servers.specs.Tables.{better, latest, latest_from}
 
 -- what stands at the place that was found so far; d is what a read past the end would give
 abbrev pub standing : VersionState → List VersionState → Option ℕ → Option VersionState
@@ -17,22 +17,22 @@ within None n = Unit {0}
 within (Some i) n = i < n
 
 -- one turn: what was found now is the better of what was found before and the version at i
-pub seek-more : (shows : VersionState → Bool) (key : ℕ) (d : VersionState) (vs : List VersionState) (i : ℕ) (was is : Option ℕ)
+pub seek_more : (shows : VersionState → Bool) (key : ℕ) (d : VersionState) (vs : List VersionState) (i : ℕ) (was is : Option ℕ)
     → i < length vs
     → standing d vs is ≡ better shows key (standing d vs was) (get_or vs i d)
-    → latestFrom shows key (standing d vs was) (drop i vs) ≡ latest shows key vs
-    → latestFrom shows key (standing d vs is) (drop (i + 1) vs) ≡ latest shows key vs
-seek-more shows key d vs i was is lt e inv =
-    ap (λ f. latestFrom shows key f (drop (i + 1) vs)) e ∙ (rw (drop_more vs i d lt) at inv)
+    → latest_from shows key (standing d vs was) (drop i vs) ≡ latest shows key vs
+    → latest_from shows key (standing d vs is) (drop (i + 1) vs) ≡ latest shows key vs
+seek_more shows key d vs i was is lt e inv =
+    ap (λ f. latest_from shows key f (drop (i + 1) vs)) e ∙ (rw (drop_more vs i d lt) at inv)
 
 abbrev pub nothing : VersionState
 nothing = record { key = 0; value = gone; stamp = 0; source = 0; mark = same 0 }
 
 -- after the last turn, what stands at the found place is the latest
-pub seek-all : (shows : VersionState → Bool) (key : ℕ) (d : VersionState) (vs : List VersionState) (i : ℕ) (found : Option ℕ)
-    → length vs ≤ i → latestFrom shows key (standing d vs found) (drop i vs) ≡ latest shows key vs
+pub seek_all : (shows : VersionState → Bool) (key : ℕ) (d : VersionState) (vs : List VersionState) (i : ℕ) (found : Option ℕ)
+    → length vs ≤ i → latest_from shows key (standing d vs found) (drop i vs) ≡ latest shows key vs
     → standing d vs found ≡ latest shows key vs
-seek-all shows key d vs i found le inv = rw (drop_all i vs le) at inv
+seek_all shows key d vs i found le inv = rw (drop_all i vs le) at inv
 
 -- the version at a place is what stands there
 pub stands : (xs : List Version) (i : ℕ) (x : Version) → x ≡ get_or xs i x → i < length xs → Some (plain x) ≡ standing nothing (map plain xs) (Some i)

@@ -5,22 +5,22 @@ use Rattle.fixed_vec.specs.Items.{kept}
 use Rattle.marks.specs.Kinds.{Kind}
 use Rattle.stamps.specs.Rows.{Four}
 use Rattle.servers.specs.Versions.{VersionState, later}
-use Rattle.servers.specs.Tables.{covered, latest, outdated, outdatedBy, tidied, tidying}
+use Rattle.servers.specs.Tables.{covered, latest, outdated, outdated_by, tidied, tidying}
 use Rattle.servers.specs.Laws.{AsLate, In, IsLatest, IsTidied, Later}
-use Rattle.servers.proofs.Keeping.{kept-length}
-use Rattle.servers.proofs.Latest.{as-late-later, latest-law, later-from, later-gives, not-both}
+use Rattle.servers.proofs.Keeping.{kept_length}
+use Rattle.servers.proofs.Latest.{as_late_later, latest_law, later_from, later_gives, not_both}
 
-pub kept-held : {A : Type 0} (p : A → Bool) (xs : List A) (x : A) → In x (kept p xs) → In x xs
-kept-held p [] x i = i
-kept-held p (y ∷ ys) x i = go (p y) (kept-held p ys x) i
+pub kept_held : {A : Type 0} (p : A → Bool) (xs : List A) (x : A) → In x (kept p xs) → In x xs
+kept_held p [] x i = i
+kept_held p (y ∷ ys) x i = go (p y) (kept_held p ys x) i
   where
     go : (b : Bool) → (In x (kept p ys) → In x ys) → In x (cond b (y ∷ kept p ys) (kept p ys)) → (x ≡ y) ⊎ In x ys
     go true rec j = ⊎_elim inl (λ h. inr (rec h)) j
     go false rec j = inr (rec j)
 
-pub kept-stays : {A : Type 0} (p : A → Bool) (xs : List A) (x : A) → In x xs → p x ≡ true → In x (kept p xs)
-kept-stays p [] x i e = i
-kept-stays p (y ∷ ys) x i e = go (p y) refl (λ j. kept-stays p ys x j e) i
+pub kept_stays : {A : Type 0} (p : A → Bool) (xs : List A) (x : A) → In x xs → p x ≡ true → In x (kept p xs)
+kept_stays p [] x i e = i
+kept_stays p (y ∷ ys) x i e = go (p y) refl (λ j. kept_stays p ys x j e) i
   where
     go : (b : Bool) → p y ≡ b → (In x ys → In x (kept p ys)) → (x ≡ y) ⊎ In x ys → In x (cond b (y ∷ kept p ys) (kept p ys))
     go true is rec j = ⊎_elim inl (λ h. inr (rec h)) j
@@ -31,32 +31,32 @@ module _ (k : Kind) (safe : Four) where
   abbrev Replaces : VersionState → VersionState → Type 0
   Replaces w v = (w.key ≡ v.key) × (covered k safe w ≡ true) × Later w v
 
-  by-gives : (v w : VersionState) → outdatedBy k safe v w ≡ true → Replaces w v
-  by-gives v w e =
+  by_gives : (v w : VersionState) → outdated_by k safe v w ≡ true → Replaces w v
+  by_gives v w e =
       let a = and_parts (eqb w.key v.key) (later w v && covered k safe w) e in
       let b = and_parts (later w v) (covered k safe w) a.1 in
-      (eqb-true w.key v.key a.0, b.1, later-gives w v b.0)
+      (eqb-true w.key v.key a.0, b.1, later_gives w v b.0)
 
-  by-from : (v w : VersionState) → Replaces w v → outdatedBy k safe v w ≡ true
-  by-from v w r = and_from (eqb w.key v.key) (later w v && covered k safe w) (eq-eqb w.key v.key r.0) (and_from (later w v) (covered k safe w) (later-from w v r.2) r.1)
+  by_from : (v w : VersionState) → Replaces w v → outdated_by k safe v w ≡ true
+  by_from v w r = and_from (eqb w.key v.key) (later w v && covered k safe w) (eq-eqb w.key v.key r.0) (and_from (later w v) (covered k safe w) (later_from w v r.2) r.1)
 
-  outdated-gives : (vs : List VersionState) (v : VersionState) → outdated k safe vs v ≡ true → (w : VersionState) × In w vs × Replaces w v
-  outdated-gives [] v e = absurd (false≢true e)
-  outdated-gives (w ∷ ws) v e =
-      ⊎_elim (λ h. (w, inl refl, by-gives v w h)) (λ h. let r = outdated-gives ws v h in (r.0, inr r.1, r.2)) (or_cases (outdatedBy k safe v w) (outdated k safe ws v) e)
+  outdated_gives : (vs : List VersionState) (v : VersionState) → outdated k safe vs v ≡ true → (w : VersionState) × In w vs × Replaces w v
+  outdated_gives [] v e = absurd (false≢true e)
+  outdated_gives (w ∷ ws) v e =
+      ⊎_elim (λ h. (w, inl refl, by_gives v w h)) (λ h. let r = outdated_gives ws v h in (r.0, inr r.1, r.2)) (or_cases (outdated_by k safe v w) (outdated k safe ws v) e)
 
-  outdated-from : (vs : List VersionState) (v w : VersionState) → In w vs → Replaces w v → outdated k safe vs v ≡ true
-  outdated-from [] v w i r = absurd i
-  outdated-from (u ∷ us) v w i r =
-      ⊎_elim (λ e. or_left (outdatedBy k safe v u) (outdated k safe us v) (by-from v u (subst (λ x. Replaces x v) e r))) (λ j. or_right (outdatedBy k safe v u) (outdated k safe us v) (outdated-from us v w j r)) i
+  outdated_from : (vs : List VersionState) (v w : VersionState) → In w vs → Replaces w v → outdated k safe vs v ≡ true
+  outdated_from [] v w i r = absurd i
+  outdated_from (u ∷ us) v w i r =
+      ⊎_elim (λ e. or_left (outdated_by k safe v u) (outdated k safe us v) (by_from v u (subst (λ x. Replaces x v) e r))) (λ j. or_right (outdated_by k safe v u) (outdated k safe us v) (outdated_from us v w j r)) i
 
   stay : (vs : List VersionState) (v : VersionState) → In v vs → ((w : VersionState) → In w vs → w.key ≡ v.key → covered k safe w ≡ true → AsLate v w) → In v (tidied k safe vs)
-  stay vs v i late = kept-stays (λ u. not (outdated k safe vs u)) vs v i (go (outdated k safe vs v) refl)
+  stay vs v i late = kept_stays (λ u. not (outdated k safe vs u)) vs v i (go (outdated k safe vs v) refl)
     where
       go : (b : Bool) → outdated k safe vs v ≡ b → not b ≡ true
       go true e =
-          let r = outdated-gives vs v e in
-          absurd (not-both v r.0 (late r.0 r.1 r.2.0 r.2.1) r.2.2)
+          let r = outdated_gives vs v e in
+          absurd (not_both v r.0 (late r.0 r.1 r.2.0 r.2.1) r.2.2)
       go false e = refl
 
   -- the latest covered version of the key stays
@@ -65,16 +65,16 @@ module _ (k : Kind) (safe : Four) where
   replaced vs v w i rep None l = absurd (l w i (rep.0, rep.1))
   replaced vs v w i rep (Some m) l =
       let last = l.2 w i (rep.0, rep.1) in
-      (m, stay vs m l.0 (λ u j key cov. l.2 u j (key ∙ l.1.0, cov)), (l.1.0, l.1.1, as-late-later m w v last rep.2))
+      (m, stay vs m l.0 (λ u j key cov. l.2 u j (key ∙ l.1.0, cov)), (l.1.0, l.1.1, as_late_later m w v last rep.2))
 
-  pub tidied-law : (vs : List VersionState) → IsTidied k safe vs (tidied k safe vs) (tidying k safe vs).0
-  tidied-law vs =
+  pub tidied_law : (vs : List VersionState) → IsTidied k safe vs (tidied k safe vs) (tidying k safe vs).0
+  tidied_law vs =
       record {
-        held = λ v i. kept-held (λ u. not (outdated k safe vs u)) vs v i;
+        held = λ v i. kept_held (λ u. not (outdated k safe vs u)) vs v i;
         stays = λ v i late. stay vs v i late;
         drops = λ v i. ⊎_elim
-            (λ e. let r = outdated-gives vs v e in let m = replaced vs v r.0 r.1 r.2 (latest (covered k safe) v.key vs) (latest-law (covered k safe) v.key vs) in inr (m.0, m.1, m.2.0, m.2.1, m.2.2))
-            (λ e. inl (kept-stays (λ u. not (outdated k safe vs u)) vs v i (ap not e)))
+            (λ e. let r = outdated_gives vs v e in let m = replaced vs v r.0 r.1 r.2 (latest (covered k safe) v.key vs) (latest_law (covered k safe) v.key vs) in inr (m.0, m.1, m.2.0, m.2.1, m.2.2))
+            (λ e. inl (kept_stays (λ u. not (outdated k safe vs u)) vs v i (ap not e)))
             (cases_Bool (outdated k safe vs v));
-        counts = let l = kept-length (λ u. not (outdated k safe vs u)) vs in omega arith;
+        counts = let l = kept_length (λ u. not (outdated k safe vs u)) vs in omega arith;
       }

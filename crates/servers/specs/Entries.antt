@@ -12,6 +12,6 @@ abbrev pub sent : Entry → Sent
 sent (Update v) = update (plain v)
 sent (Heartbeat s) = heartbeat s.value
 
-abbrev pub stampOf : Sent → ℕ
-stampOf (update v) = v.stamp
-stampOf (heartbeat s) = s
+abbrev pub stamp_of : Sent → ℕ
+stamp_of (update v) = v.stamp
+stamp_of (heartbeat s) = s

@@ -4,9 +4,9 @@ use Rattle.stamps.specs.declared.refusal.Refusal.{Refusal}
 use Rattle.marks.specs.Kinds.{Kind}
 use Rattle.stamps.specs.Rows.{Four, Stamps}
 use Rattle.servers.specs.Entries.{Sent}
-use Rattle.servers.specs.Others.{isOther}
-use Rattle.servers.specs.Outboxes.{Queues, first, issued, noneWaiting, outboxFull, takenBy}
-use Rattle.servers.specs.Servers.{Rule, ServerState, beaten, fresh, handing, last_of, putting, raised, reporting, taking, tidiedUp, told}
+use Rattle.servers.specs.Others.{is_other}
+use Rattle.servers.specs.Outboxes.{Queues, first, issued, none_waiting, outbox_full, taken_by}
+use Rattle.servers.specs.Servers.{Rule, ServerState, beaten, fresh, handing, last_of, putting, raised, reporting, taking, tidied_up, told}
 use Rattle.servers.specs.Tables.{covered}
 use Rattle.servers.specs.Values.{Worth}
 use Rattle.servers.specs.Versions.{VersionState}
@@ -69,23 +69,23 @@ listed (Some x) = x ∷ []
 -- with an outbox that is full nothing is issued
 abbrev pub moved : ℕ → ℕ → Traffic → Move → Traffic
 moved own sites t (issue e) =
-    cond (outboxFull own sites t.queues) t
+    cond (outbox_full own sites t.queues) t
     (record { queues = issued own sites t.queues e; sent = t.sent ++ e ∷ []; taken = t.taken })
 moved own sites t (take site) =
-    record { queues = takenBy t.queues site; sent = t.sent; taken = λ i. cond (i == site) (t.taken i ++ listed (first (t.queues i))) (t.taken i) }
+    record { queues = taken_by t.queues site; sent = t.sent; taken = λ i. cond (i == site) (t.taken i ++ listed (first (t.queues i))) (t.taken i) }
 
 abbrev pub traffic : ℕ → ℕ → List Move → Traffic
-traffic own sites [] = record { queues = noneWaiting; sent = []; taken = λ i. [] }
+traffic own sites [] = record { queues = none_waiting; sent = []; taken = λ i. [] }
 traffic own sites (m ∷ ms) = moved own sites (traffic own sites ms) m
 
 -- After any moves, the newest first: what another site has taken, followed by what it has still to take, is what was
 -- issued, in order, nothing lost and nothing twice; so nothing waits for it exactly when it has taken all that was
 -- issued; and it has at most 16 entries still to take. No other site has any.
 pub record IsQueue (own sites : ℕ) (t : Traffic) : Type 0 where
-  pub whole : (site : ℕ) → isOther own sites site ≡ true → t.taken site ++ t.queues site ≡ t.sent
-  pub done : (site : ℕ) → isOther own sites site ≡ true → (t.queues site ≡ [] → t.taken site ≡ t.sent) × (t.taken site ≡ t.sent → t.queues site ≡ [])
-  pub short : (site : ℕ) → isOther own sites site ≡ true → length (t.queues site) ≤ 16
-  pub none : (site : ℕ) → isOther own sites site ≡ false → t.queues site ≡ []
+  pub whole : (site : ℕ) → is_other own sites site ≡ true → t.taken site ++ t.queues site ≡ t.sent
+  pub done : (site : ℕ) → is_other own sites site ≡ true → (t.queues site ≡ [] → t.taken site ≡ t.sent) × (t.taken site ≡ t.sent → t.queues site ≡ [])
+  pub short : (site : ℕ) → is_other own sites site ≡ true → length (t.queues site) ≤ 16
+  pub none : (site : ℕ) → is_other own sites site ≡ false → t.queues site ≡ []
 
 abbrev pub QueueLaw : ℕ → ℕ → Type 0
 QueueLaw own sites = (moves : List Move) → IsQueue own sites (traffic own sites moves)
@@ -98,9 +98,9 @@ pub data Call : Type 0 where
   -- the key, the value, and the rows of what the session depends on and of what it knows
   put : ℕ → Worth → Four → Four → Call
   -- the site that the entry comes from
-  takeFrom : ℕ → Sent → Call
+  take_from : ℕ → Sent → Call
   -- the site that has taken its next entry
-  handOver : ℕ → Call
+  hand_over : ℕ → Call
   report : Call
   raise : Four → Call
   -- the safe mark
@@ -111,8 +111,8 @@ abbrev pub Lawful : Call → Type 0
 Lawful (tell time) = Unit {0}
 Lawful beat = Unit {0}
 Lawful (put key value depends knows) = Stamps depends
-Lawful (takeFrom from e) = Unit {0}
-Lawful (handOver site) = Unit {0}
+Lawful (take_from from e) = Unit {0}
+Lawful (hand_over site) = Unit {0}
 Lawful report = Unit {0}
 Lawful (raise mark) = Unit {0}
 Lawful (tidy safe) = Unit {0}
@@ -135,11 +135,11 @@ abbrev pub called : Rule → Kind → Life → Call → Life
 called rule k l (tell time) = unstamped l (told l.server time).1
 called rule k l beat = let r = beaten rule l.server in stamped l r.0 r.1
 called rule k l (put key value depends knows) = let r = putting rule k l.server key value depends knows in stamped l r.0 r.1
-called rule k l (takeFrom from e) = unstamped l (taking l.server from e).1
-called rule k l (handOver site) = unstamped l (handing l.server site)
+called rule k l (take_from from e) = unstamped l (taking l.server from e).1
+called rule k l (hand_over site) = unstamped l (handing l.server site)
 called rule k l report = unstamped l (reporting k l.server)
 called rule k l (raise mark) = unstamped l (raised k l.server mark)
-called rule k l (tidy safe) = unstamped l (tidiedUp k l.server safe).1
+called rule k l (tidy safe) = unstamped l (tidied_up k l.server safe).1
 
 -- from the server as it is made; the newest call comes first
 abbrev pub life : Rule → Kind → ℕ → ℕ → List Call → Life

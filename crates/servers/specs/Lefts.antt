@@ -1,12 +1,12 @@
 -- How many entries each site has still to take.
 use Rattle.std.specs.Prelude.{◌≡◌, ℕ, false}
 use Rattle.stamps.specs.Rows.{Four}
-use Rattle.servers.specs.Others.{isOther}
+use Rattle.servers.specs.Others.{is_other}
 
 -- a site that is no other site of the layout has none to take
 abbrev pub OthersOnly : ℕ → ℕ → Four → Type 0
 OthersOnly own sites left =
-    (isOther own sites 0 ≡ false → left.site0 ≡ 0)
-    × (isOther own sites 1 ≡ false → left.site1 ≡ 0)
-    × (isOther own sites 2 ≡ false → left.site2 ≡ 0)
-    × (isOther own sites 3 ≡ false → left.site3 ≡ 0)
+    (is_other own sites 0 ≡ false → left.site0 ≡ 0)
+    × (is_other own sites 1 ≡ false → left.site1 ≡ 0)
+    × (is_other own sites 2 ≡ false → left.site2 ≡ 0)
+    × (is_other own sites 3 ≡ false → left.site3 ≡ 0)

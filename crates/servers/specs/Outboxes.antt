@@ -4,7 +4,7 @@ use Rattle.fixed_vec.specs.Items.{items}
 use Rattle.stamps.specs.Rows.{Four, at}
 use Rattle.servers.specs.Counting.{counts}
 use Rattle.servers.specs.Entries.{Sent, sent}
-use Rattle.servers.specs.Others.{isOther}
+use Rattle.servers.specs.Others.{is_other}
 use Rattle.servers.specs.declared.outbox.Outbox.{Outbox}
 
 -- by site
@@ -12,37 +12,37 @@ abbrev pub Queues : Type 0
 Queues = ℕ → List Sent
 
 -- the last entries: as many as the site has still to take
-abbrev pub lastFor : List Sent → Four → Queues
-lastFor entries left site = cond (nat_lt site 4) (drop (length entries - at left site) entries) []
+abbrev pub last_for : List Sent → Four → Queues
+last_for entries left site = cond (nat_lt site 4) (drop (length entries - at left site) entries) []
 
 abbrev pub waiting : Outbox → Queues
-waiting o = lastFor (map sent (items o.entries)) (counts o.left)
+waiting o = last_for (map sent (items o.entries)) (counts o.left)
 
-abbrev pub noneWaiting : Queues
-noneWaiting site = []
+abbrev pub none_waiting : Queues
+none_waiting site = []
 
 -- some other site has 16 entries still to take
 abbrev pub has16 : ℕ → ℕ → Queues → ℕ → Bool
-has16 own sites w site = isOther own sites site && nat_le 16 (length (w site))
+has16 own sites w site = is_other own sites site && nat_le 16 (length (w site))
 
-abbrev pub outboxFull : ℕ → ℕ → Queues → Bool
-outboxFull own sites w = has16 own sites w 0 || (has16 own sites w 1 || (has16 own sites w 2 || has16 own sites w 3))
+abbrev pub outbox_full : ℕ → ℕ → Queues → Bool
+outbox_full own sites w = has16 own sites w 0 || (has16 own sites w 1 || (has16 own sites w 2 || has16 own sites w 3))
 
 -- one entry more for every other site
 abbrev pub issued : ℕ → ℕ → Queues → Sent → Queues
-issued own sites w e site = cond (isOther own sites site) (w site ++ e ∷ []) (w site)
+issued own sites w e site = cond (is_other own sites site) (w site ++ e ∷ []) (w site)
 
 -- the same, if no other site has 16 to take
-abbrev pub issuedIfRoom : ℕ → ℕ → Queues → Sent → Queues
-issuedIfRoom own sites w e = cond (outboxFull own sites w) w (issued own sites w e)
+abbrev pub issued_if_room : ℕ → ℕ → Queues → Sent → Queues
+issued_if_room own sites w e = cond (outbox_full own sites w) w (issued own sites w e)
 
 abbrev pub first : {A : Type 0} → List A → Option A
 first [] = None
 first (x ∷ xs) = Some x
 
 -- the next entry for a site, and what is left when it is taken
-abbrev pub nextFor : Queues → ℕ → Option Sent
-nextFor w site = first (w site)
+abbrev pub next_for : Queues → ℕ → Option Sent
+next_for w site = first (w site)
 
-abbrev pub takenBy : Queues → ℕ → Queues
-takenBy w taker site = cond (site == taker) (drop 1 (w site)) (w site)
+abbrev pub taken_by : Queues → ℕ → Queues
+taken_by w taker site = cond (site == taker) (drop 1 (w site)) (w site)

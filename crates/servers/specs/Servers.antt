@@ -2,14 +2,14 @@
 use Rattle.std.specs.Prelude.{ℕ, Bool, cond, List, [], ◌∷◌, ◌++◌, ℤ, pos, ◌-ℤ◌, Ok, Err, Option, Result, ◌==◌, nat_lt}
 use Rattle.stamps.specs.declared.refusal.Refusal.{Refusal}
 use Rattle.stamps.specs.declared.refusal.Refusal.TheVariants.{NotInLayout, ReadingBehind, TableFull, OutboxFull}
-use Rattle.stamps.specs.Checks.{checkedReading}
+use Rattle.stamps.specs.Checks.{checked_reading}
 use Rattle.marks.specs.Kinds.{Kind}
-use Rattle.stamps.specs.Rows.{Four, at, four, greatest, join, same, withEntry}
-use Rattle.stamps.specs.Stamps.{lastStamp, timeOf}
-use Rattle.servers.specs.Entries.{Sent, update, heartbeat, stampOf}
+use Rattle.stamps.specs.Rows.{Four, at, four, greatest, join, same, with_entry}
+use Rattle.stamps.specs.Stamps.{last_stamp, time_of}
+use Rattle.servers.specs.Entries.{Sent, update, heartbeat, stamp_of}
 use Rattle.servers.specs.Held.{held}
-use Rattle.servers.specs.Outboxes.{Queues, issued, noneWaiting, outboxFull, takenBy, waiting}
-use Rattle.servers.specs.Tables.{covered, latest, tableFull, tidying, visible}
+use Rattle.servers.specs.Outboxes.{Queues, issued, none_waiting, outbox_full, taken_by, waiting}
+use Rattle.servers.specs.Tables.{covered, latest, table_full, tidying, visible}
 use Rattle.servers.specs.Values.{Worth}
 use Rattle.servers.specs.Versions.{VersionState}
 use Rattle.servers.specs.declared.server.Server.{Server}
@@ -48,117 +48,117 @@ view s =
     }
 
 -- nothing was received yet; a site that the layout lacks never sends anything
-abbrev pub firstEntry : ℕ → ℕ → ℕ
-firstEntry sites site = cond (nat_lt site sites) 0 lastStamp
+abbrev pub first_entry : ℕ → ℕ → ℕ
+first_entry sites site = cond (nat_lt site sites) 0 last_stamp
 
-abbrev pub firstReceived : ℕ → Four
-firstReceived sites = record { site0 = firstEntry sites 0; site1 = firstEntry sites 1; site2 = firstEntry sites 2; site3 = firstEntry sites 3 }
+abbrev pub first_received : ℕ → Four
+first_received sites = record { site0 = first_entry sites 0; site1 = first_entry sites 1; site2 = first_entry sites 2; site3 = first_entry sites 3 }
 
 abbrev pub fresh : ℕ → ℕ → ServerState
 fresh site sites =
-    record { site = site; sites = sites; reading = 0; marks = record { received = firstReceived sites; reported = same 0; stable = same 0 }; held = []; waiting = noneWaiting }
+    record { site = site; sites = sites; reading = 0; marks = record { received = first_received sites; reported = same 0; stable = same 0 }; held = []; waiting = none_waiting }
 
 -- the server's last stamp
 abbrev pub last_of : ServerState → ℕ
 last_of s = at s.marks.received s.site
 
-abbrev pub withReceived : MarksState → ℕ → ℕ → MarksState
-withReceived m site stamp = record { received = withEntry m.received site stamp; reported = m.reported; stable = m.stable }
+abbrev pub with_received : MarksState → ℕ → ℕ → MarksState
+with_received m site stamp = record { received = with_entry m.received site stamp; reported = m.reported; stable = m.stable }
 
-abbrev pub withStable : MarksState → Four → MarksState
-withStable m stable = record { received = m.received; reported = m.reported; stable = stable }
+abbrev pub with_stable : MarksState → Four → MarksState
+with_stable m stable = record { received = m.received; reported = m.reported; stable = stable }
 
-abbrev pub withMarks : ServerState → MarksState → ServerState
-withMarks s marks = record { site = s.site; sites = s.sites; reading = s.reading; marks = marks; held = s.held; waiting = s.waiting }
+abbrev pub with_marks : ServerState → MarksState → ServerState
+with_marks s marks = record { site = s.site; sites = s.sites; reading = s.reading; marks = marks; held = s.held; waiting = s.waiting }
 
 -- tell: a reading outside its range is refused before one that is behind
-abbrev pub toldReading : ServerState → Result ℕ Refusal → Result (Unit {0}) Refusal × ServerState
-toldReading s (Err why) = (Err why, s)
-toldReading s (Ok time) =
+abbrev pub told_reading : ServerState → Result ℕ Refusal → Result (Unit {0}) Refusal × ServerState
+told_reading s (Err why) = (Err why, s)
+told_reading s (Ok time) =
     cond (nat_lt time s.reading) (Err ReadingBehind, s)
     (Ok tt, record { site = s.site; sites = s.sites; reading = time; marks = s.marks; held = s.held; waiting = s.waiting })
 
 abbrev pub told : ServerState → ℕ → Result (Unit {0}) Refusal × ServerState
-told s time = toldReading s (checkedReading time)
+told s time = told_reading s (checked_reading time)
 
 -- an entry is issued: its stamp is the last one, and every other site has it to take
 abbrev pub issuing : ServerState → Sent → ServerState
 issuing s e =
-    record { site = s.site; sites = s.sites; reading = s.reading; marks = withReceived s.marks s.site (stampOf e); held = s.held; waiting = issued s.site s.sites s.waiting e }
+    record { site = s.site; sites = s.sites; reading = s.reading; marks = with_received s.marks s.site (stamp_of e); held = s.held; waiting = issued s.site s.sites s.waiting e }
 
 -- heartbeat: a full outbox is refused before the rule is asked
-abbrev pub beatenAt : ServerState → Result ℕ Refusal → Result ℕ Refusal × ServerState
-beatenAt s (Err why) = (Err why, s)
-beatenAt s (Ok stamp) = (Ok stamp, issuing s (heartbeat stamp))
+abbrev pub beaten_at : ServerState → Result ℕ Refusal → Result ℕ Refusal × ServerState
+beaten_at s (Err why) = (Err why, s)
+beaten_at s (Ok stamp) = (Ok stamp, issuing s (heartbeat stamp))
 
 abbrev pub beaten : Rule → ServerState → Result ℕ Refusal × ServerState
-beaten rule s = cond (outboxFull s.site s.sites s.waiting) (Err OutboxFull, s) (beatenAt s (rule (last_of s) s.reading 0))
+beaten rule s = cond (outbox_full s.site s.sites s.waiting) (Err OutboxFull, s) (beaten_at s (rule (last_of s) s.reading 0))
 
 -- the time of the last stamp less the reading
-abbrev pub leadOf : ServerState → ℤ
-leadOf s = pos (timeOf (last_of s)) -ℤ pos s.reading
+abbrev pub lead_of : ServerState → ℤ
+lead_of s = pos (time_of (last_of s)) -ℤ pos s.reading
 
 -- a mark is joined into the stable mark, which is taken as a mark by the kind's floor
 abbrev pub raised : Kind → ServerState → Four → ServerState
-raised k s mark = withMarks s (withStable s.marks (join (k.floor s.marks.stable) mark))
+raised k s mark = with_marks s (with_stable s.marks (join (k.floor s.marks.stable) mark))
 
 -- the reported mark is the floor of the received row
 abbrev pub reporting : Kind → ServerState → ServerState
-reporting k s = withMarks s (record { received = s.marks.received; reported = k.floor s.marks.received; stable = s.marks.stable })
+reporting k s = with_marks s (record { received = s.marks.received; reported = k.floor s.marks.received; stable = s.marks.stable })
 
 -- put: the version that is made
-abbrev pub putVersion : ServerState → ℕ → Worth → Four → ℕ → VersionState
-putVersion s key value depends stamp = record { key = key; value = value; stamp = stamp; source = s.site; mark = depends }
+abbrev pub put_version : ServerState → ℕ → Worth → Four → ℕ → VersionState
+put_version s key value depends stamp = record { key = key; value = value; stamp = stamp; source = s.site; mark = depends }
 
 -- the version is kept, at the end
 abbrev pub keeping : ServerState → VersionState → ServerState
 keeping s v = record { site = s.site; sites = s.sites; reading = s.reading; marks = s.marks; held = s.held ++ v ∷ []; waiting = s.waiting }
 
 -- with a stamp, the version is kept and issued, and the stable mark is raised by what the session knows
-abbrev pub puttingAt : Kind → ServerState → ℕ → Worth → Four → Four → Result ℕ Refusal → Result ℕ Refusal × ServerState
-puttingAt k s key value depends knows (Err why) = (Err why, s)
-puttingAt k s key value depends knows (Ok stamp) =
-    let v = putVersion s key value depends stamp in
+abbrev pub putting_at : Kind → ServerState → ℕ → Worth → Four → Four → Result ℕ Refusal → Result ℕ Refusal × ServerState
+putting_at k s key value depends knows (Err why) = (Err why, s)
+putting_at k s key value depends knows (Ok stamp) =
+    let v = put_version s key value depends stamp in
     (Ok stamp, raised k (issuing (keeping s v) (update v)) knows)
 
 -- a full table is refused before a full outbox, and that before the rule is asked; the dependency is the greatest
 -- entry of what the session depends on
 abbrev pub putting : Rule → Kind → ServerState → ℕ → Worth → Four → Four → Result ℕ Refusal × ServerState
 putting rule k s key value depends knows =
-    cond (tableFull s.held) (Err TableFull, s)
-    (cond (outboxFull s.site s.sites s.waiting) (Err OutboxFull, s)
-    (puttingAt k s key value depends knows (rule (last_of s) s.reading (greatest depends))))
+    cond (table_full s.held) (Err TableFull, s)
+    (cond (outbox_full s.site s.sites s.waiting) (Err OutboxFull, s)
+    (putting_at k s key value depends knows (rule (last_of s) s.reading (greatest depends))))
 
 -- an entry of this stamp was taken from a site
 abbrev pub receiving : ServerState → ℕ → ℕ → ServerState
-receiving s from stamp = withMarks s (withReceived s.marks from stamp)
+receiving s from stamp = with_marks s (with_received s.marks from stamp)
 
 -- an entry of another site is taken: a full table refuses an update
-abbrev pub takingOther : ServerState → ℕ → Sent → Result (Unit {0}) Refusal × ServerState
-takingOther s from (heartbeat stamp) = (Ok tt, receiving s from stamp)
-takingOther s from (update v) = cond (tableFull s.held) (Err TableFull, s) (Ok tt, receiving (keeping s v) from v.stamp)
+abbrev pub taking_other : ServerState → ℕ → Sent → Result (Unit {0}) Refusal × ServerState
+taking_other s from (heartbeat stamp) = (Ok tt, receiving s from stamp)
+taking_other s from (update v) = cond (table_full s.held) (Err TableFull, s) (Ok tt, receiving (keeping s v) from v.stamp)
 
 -- take: an entry of the server's own site is refused before anything else
 abbrev pub taking : ServerState → ℕ → Sent → Result (Unit {0}) Refusal × ServerState
-taking s from e = cond (from == s.site) (Err NotInLayout, s) (takingOther s from e)
+taking s from e = cond (from == s.site) (Err NotInLayout, s) (taking_other s from e)
 
 -- a site has taken its next entry
 abbrev pub handing : ServerState → ℕ → ServerState
-handing s site = record { site = s.site; sites = s.sites; reading = s.reading; marks = s.marks; held = s.held; waiting = takenBy s.waiting site }
+handing s site = record { site = s.site; sites = s.sites; reading = s.reading; marks = s.marks; held = s.held; waiting = taken_by s.waiting site }
 
 -- whether a version is visible at the server
 abbrev pub sees : Kind → ServerState → VersionState → Bool
 sees k s = visible k s.site (k.floor s.marks.stable)
 
 -- the latest version of a key that is visible, and that a cut covers
-abbrev pub latestVisible : Kind → ServerState → ℕ → Option VersionState
-latestVisible k s key = latest (sees k s) key s.held
+abbrev pub latest_visible : Kind → ServerState → ℕ → Option VersionState
+latest_visible k s key = latest (sees k s) key s.held
 
-abbrev pub latestCovered : Kind → ServerState → ℕ → Four → Option VersionState
-latestCovered k s key cut = latest (covered k cut) key s.held
+abbrev pub latest_covered : Kind → ServerState → ℕ → Four → Option VersionState
+latest_covered k s key cut = latest (covered k cut) key s.held
 
 -- tidying under a safe mark: how many versions are dropped
-abbrev pub tidiedUp : Kind → ServerState → Four → ℕ × ServerState
-tidiedUp k s safe =
+abbrev pub tidied_up : Kind → ServerState → Four → ℕ × ServerState
+tidied_up k s safe =
     let t = tidying k safe s.held in
     (t.0, record { site = s.site; sites = s.sites; reading = s.reading; marks = s.marks; held = t.1; waiting = s.waiting })

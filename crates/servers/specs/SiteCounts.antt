@@ -8,5 +8,5 @@ abbrev pub count_of : Result SiteCount Refusal → Result ℕ Refusal
 count_of (Ok count) = Ok count.number
 count_of (Err why) = Err why
 
-abbrev pub checkedCount : ℕ → Result ℕ Refusal
-checkedCount n = cond (nat_le 2 n && nat_le n 4) (Ok n) (Err BadLayout)
+abbrev pub checked_count : ℕ → Result ℕ Refusal
+checked_count n = cond (nat_le 2 n && nat_le n 4) (Ok n) (Err BadLayout)

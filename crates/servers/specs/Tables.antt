@@ -3,11 +3,11 @@ use Rattle.std.specs.Prelude.{ℕ, ◌-◌, Bool, false, cond, not, ◌&&◌, �
 use Rattle.fixed_vec.specs.Items.{kept}
 use Rattle.stamps.specs.Rows.{Four, covers}
 use Rattle.marks.specs.Kinds.{Kind}
-use Rattle.servers.specs.Versions.{VersionState, later, fullMark}
+use Rattle.servers.specs.Versions.{VersionState, later, full_mark}
 
 -- the cut of a snapshot covers the version
 abbrev pub covered : Kind → Four → VersionState → Bool
-covered k cut v = covers cut (fullMark k v)
+covered k cut v = covers cut (full_mark k v)
 
 -- the version is visible at a site under a stable mark: it is local, or the stable mark covers it
 abbrev pub visible : Kind → ℕ → Four → VersionState → Bool
@@ -19,20 +19,20 @@ better shows key None v = cond (v.key == key && shows v) (Some v) None
 better shows key (Some best) v = cond (v.key == key && (shows v && later v best)) (Some v) (Some best)
 
 -- the latest of a key that is shown
-abbrev pub latestFrom : (VersionState → Bool) → ℕ → Option VersionState → List VersionState → Option VersionState
-latestFrom shows key found [] = found
-latestFrom shows key found (v ∷ vs) = latestFrom shows key (better shows key found v) vs
+abbrev pub latest_from : (VersionState → Bool) → ℕ → Option VersionState → List VersionState → Option VersionState
+latest_from shows key found [] = found
+latest_from shows key found (v ∷ vs) = latest_from shows key (better shows key found v) vs
 
 abbrev pub latest : (VersionState → Bool) → ℕ → List VersionState → Option VersionState
-latest shows key vs = latestFrom shows key None vs
+latest shows key vs = latest_from shows key None vs
 
 -- a later version of its key in the table is covered by the safe mark
-abbrev pub outdatedBy : Kind → Four → VersionState → VersionState → Bool
-outdatedBy k safe v w = w.key == v.key && (later w v && covered k safe w)
+abbrev pub outdated_by : Kind → Four → VersionState → VersionState → Bool
+outdated_by k safe v w = w.key == v.key && (later w v && covered k safe w)
 
 abbrev pub outdated : Kind → Four → List VersionState → VersionState → Bool
 outdated k safe [] v = false
-outdated k safe (w ∷ ws) v = outdatedBy k safe v w || outdated k safe ws v
+outdated k safe (w ∷ ws) v = outdated_by k safe v w || outdated k safe ws v
 
 -- what tidying keeps
 abbrev pub tidied : Kind → Four → List VersionState → List VersionState
@@ -43,9 +43,9 @@ abbrev pub tidying : Kind → Four → List VersionState → ℕ × List Version
 tidying k safe vs = (length vs - length (tidied k safe vs), tidied k safe vs)
 
 -- a server holds at most 32 versions
-abbrev pub tableFull : List VersionState → Bool
-tableFull vs = nat_le 32 (length vs)
+abbrev pub table_full : List VersionState → Bool
+table_full vs = nat_le 32 (length vs)
 
 -- one version more, if there is room
 abbrev pub kept1 : List VersionState → VersionState → List VersionState
-kept1 vs v = cond (tableFull vs) vs (vs ++ v ∷ [])
+kept1 vs v = cond (table_full vs) vs (vs ++ v ∷ [])

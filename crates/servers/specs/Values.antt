@@ -18,15 +18,15 @@ pub data Worth : Type 0 where
   part : Worth
   sheet : Worth
 
-abbrev pub basisWorth : Basis → Worth
-basisWorth Part = part
-basisWorth Sheet = sheet
+abbrev pub basis_worth : Basis → Worth
+basis_worth Part = part
+basis_worth Sheet = sheet
 
 abbrev pub worth : Value → Worth
 worth Gone = gone
 worth (Price cents) = price cents
 worth (Percent p) = percent p.hundredths
-worth (BasisOf b) = basisWorth b
+worth (BasisOf b) = basis_worth b
 
 abbrev pub kind_of : Worth → ℕ
 kind_of gone = 0
@@ -35,22 +35,22 @@ kind_of (percent hundredths) = 2
 kind_of part = 3
 kind_of sheet = 3
 
-abbrev pub amountOf : Worth → ℕ
-amountOf gone = 0
-amountOf (price cents) = cents
-amountOf (percent hundredths) = hundredths
-amountOf part = 0
-amountOf sheet = 1
+abbrev pub amount_of : Worth → ℕ
+amount_of gone = 0
+amount_of (price cents) = cents
+amount_of (percent hundredths) = hundredths
+amount_of part = 0
+amount_of sheet = 1
 
 -- the value of a kind and an amount
-abbrev pub worthFrom : ℕ → ℕ → Result Worth Refusal
-worthFrom kind amount =
+abbrev pub worth_from : ℕ → ℕ → Result Worth Refusal
+worth_from kind amount =
     cond (kind == 0 && amount == 0) (Ok gone)
     (cond (kind == 1) (Ok (price amount))
     (cond (kind == 2 && nat_le amount 10000) (Ok (percent amount))
     (cond (kind == 3 && amount == 0) (Ok part)
     (cond (kind == 3 && amount == 1) (Ok sheet) (Err Unlawful)))))
 
-abbrev pub worthOf : Result Value Refusal → Result Worth Refusal
-worthOf (Ok v) = Ok (worth v)
-worthOf (Err why) = Err why
+abbrev pub worth_of : Result Value Refusal → Result Worth Refusal
+worth_of (Ok v) = Ok (worth v)
+worth_of (Err why) = Err why

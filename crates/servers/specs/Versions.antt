@@ -22,5 +22,5 @@ abbrev pub later : VersionState → VersionState → Bool
 later v w = nat_lt w.stamp v.stamp || (w.stamp == v.stamp && nat_lt w.source v.source)
 
 -- the full mark: what whoever has seen the version depends on
-abbrev pub fullMark : Kind → VersionState → Four
-fullMark k v = join (k.floor v.mark) (k.lift v.source v.stamp)
+abbrev pub full_mark : Kind → VersionState → Four
+full_mark k v = join (k.floor v.mark) (k.lift v.source v.stamp)

@@ -1,6 +1,6 @@
 // What a server sends to the other sites.
 ghost use Rattle.std.specs.Prelude.{◌≡◌};
-ghost use Rattle.servers.specs.Entries.{sent, stampOf};
+ghost use Rattle.servers.specs.Entries.{sent, stamp_of};
 
 use crate::version::Version;
 use stamps::stamp::Stamp;
@@ -15,7 +15,7 @@ pub enum Entry {
 
 impl Entry {
     pub(crate) fn stamp(self) -> Stamp
-        ensures { result.value ≡ stampOf (sent self) }
+        ensures { result.value ≡ stamp_of (sent self) }
     {
         match self {
             Entry::Update(version) => version.stamp,

@@ -1,6 +1,6 @@
 // What a version says of its key.
 ghost use Rattle.std.specs.Prelude.{◌≡◌};
-ghost use Rattle.servers.specs.Values.{worth, basisWorth, worthOf, worthFrom, kind_of, amountOf};
+ghost use Rattle.servers.specs.Values.{worth, basis_worth, worth_of, worth_from, kind_of, amount_of};
 
 use crate::percent::Percent;
 use stamps::refusal::Refusal;
@@ -16,7 +16,7 @@ pub enum Basis {
 
 impl Basis {
     pub(crate) fn amount(self) -> u32
-        ensures { result ≡ amountOf (basisWorth self) }
+        ensures { result ≡ amount_of (basis_worth self) }
     {
         match self {
             Basis::Part => 0,
@@ -38,7 +38,7 @@ pub enum Value {
 impl Value {
     // The value of a kind byte and an amount, if there is one.
     pub fn new(kind: u8, amount: u32) -> Result<Value, Refusal>
-        ensures { worthOf result ≡ worthFrom kind amount }
+        ensures { worth_of result ≡ worth_from kind amount }
     {
         match (kind, amount) {
             (0, 0) => Ok(Value::Gone),
@@ -62,7 +62,7 @@ impl Value {
     }
 
     pub fn amount(self) -> u32
-        ensures { result ≡ amountOf (worth self) }
+        ensures { result ≡ amount_of (worth self) }
     {
         match self {
             Value::Gone => 0,

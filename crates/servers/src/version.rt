@@ -1,7 +1,7 @@
 // One value of a key, as it was put.
 ghost use Rattle.std.specs.Prelude.{◌≡◌};
 ghost use Rattle.servers.specs.Values.{worth};
-ghost use Rattle.servers.specs.Versions.{plain, later, fullMark};
+ghost use Rattle.servers.specs.Versions.{plain, later, full_mark};
 
 use crate::value::Value;
 use marks::mark_kind::MarkKind;
@@ -48,7 +48,7 @@ impl Version {
 
     // The mark of all that whoever has seen this version depends on.
     pub fn full_mark<K: MarkKind>(&self) -> K::Mark
-        ensures { K.MarkKind.meaning result ≡ fullMark K.MarkKind.kind (plain self.now) }
+        ensures { K.MarkKind.meaning result ≡ full_mark K.MarkKind.kind (plain self.now) }
     {
         K::join(K::floor(self.mark), K::lift(self.source, self.stamp))
     }

@@ -5,17 +5,17 @@ use Rattle.stamps.specs.Rows.{Four, Covers, meet}
 abbrev of : ℕ → ℕ → ℕ → ℕ → Four
 of a b c d = record { site0 = a; site1 = b; site2 = c; site3 = d }
 
-of-same : (a b c d a' b' c' d' : ℕ) → a ≡ a' → b ≡ b' → c ≡ c' → d ≡ d' → of a b c d ≡ of a' b' c' d'
-of-same a b c d a' b' c' d' p q r s = cc
+of_same : (a b c d a' b' c' d' : ℕ) → a ≡ a' → b ≡ b' → c ≡ c' → d ≡ d' → of a b c d ≡ of a' b' c' d'
+of_same a b c d a' b' c' d' p q r s = cc
 
 pub same_rows : (x y : Four) → x.site0 ≡ y.site0 → x.site1 ≡ y.site1 → x.site2 ≡ y.site2 → x.site3 ≡ y.site3 → x ≡ y
-same_rows x y p q r s = of-same x.site0 x.site1 x.site2 x.site3 _ _ _ _ p q r s
+same_rows x y p q r s = of_same x.site0 x.site1 x.site2 x.site3 _ _ _ _ p q r s
 
-pub same-from-covers : (x y : Four) → Covers x y → Covers y x → x ≡ y
-same-from-covers x y p q = same_rows x y (omega arith) (omega arith) (omega arith) (omega arith)
+pub same_from_covers : (x y : Four) → Covers x y → Covers y x → x ≡ y
+same_from_covers x y p q = same_rows x y (omega arith) (omega arith) (omega arith) (omega arith)
 
-pub covers-trans : (x y z : Four) → Covers x y → Covers y z → Covers x z
-covers-trans x y z p q = (omega arith, omega arith, omega arith, omega arith)
+pub covers_trans : (x y z : Four) → Covers x y → Covers y z → Covers x z
+covers_trans x y z p q = (omega arith, omega arith, omega arith, omega arith)
 
 -- a meet is below both, and covers whatever both cover
 pub meet_left : (x y : Four) → Covers x (meet x y)
@@ -24,11 +24,11 @@ meet_left x y = (omega arith, omega arith, omega arith, omega arith)
 pub meet_right : (x y : Four) → Covers y (meet x y)
 meet_right x y = (omega arith, omega arith, omega arith, omega arith)
 
-pub meet-greatest : (x y z : Four) → Covers x z → Covers y z → Covers (meet x y) z
-meet-greatest x y z p q = (omega arith, omega arith, omega arith, omega arith)
+pub meet_greatest : (x y z : Four) → Covers x z → Covers y z → Covers (meet x y) z
+meet_greatest x y z p q = (omega arith, omega arith, omega arith, omega arith)
 
-pub meet-assoc : (x y z : Four) → meet (meet x y) z ≡ meet x (meet y z)
-meet-assoc x y z = same_rows _ _ (omega arith) (omega arith) (omega arith) (omega arith)
+pub meet_assoc : (x y z : Four) → meet (meet x y) z ≡ meet x (meet y z)
+meet_assoc x y z = same_rows _ _ (omega arith) (omega arith) (omega arith) (omega arith)
 
 pub meet_comm : (x y : Four) → meet x y ≡ meet y x
 meet_comm x y = same_rows _ _ (omega arith) (omega arith) (omega arith) (omega arith)

@@ -9,33 +9,33 @@ use Rattle.stamps.specs.declared.row.Row.{Row}
 use Rattle.stamps.specs.Rows.{Four, four}
 
 -- the number of the stamp that was answered, or the refusal
-abbrev pub stampNumber : Result Stamp Refusal → Result ℕ Refusal
-stampNumber (Ok s) = Ok s.value
-stampNumber (Err e) = Err e
+abbrev pub stamp_number : Result Stamp Refusal → Result ℕ Refusal
+stamp_number (Ok s) = Ok s.value
+stamp_number (Err e) = Err e
 
-abbrev pub readingNumber : Result Reading Refusal → Result ℕ Refusal
-readingNumber (Ok r) = Ok r.time
-readingNumber (Err e) = Err e
+abbrev pub reading_number : Result Reading Refusal → Result ℕ Refusal
+reading_number (Ok r) = Ok r.time
+reading_number (Err e) = Err e
 
-abbrev pub siteNumber : Result Site Refusal → Result ℕ Refusal
-siteNumber (Ok s) = Ok s.number
-siteNumber (Err e) = Err e
+abbrev pub site_number : Result Site Refusal → Result ℕ Refusal
+site_number (Ok s) = Ok s.number
+site_number (Err e) = Err e
 
-abbrev pub rowNumbers : Result Row Refusal → Result Four Refusal
-rowNumbers (Ok r) = Ok (four r.entries)
-rowNumbers (Err e) = Err e
+abbrev pub row_numbers : Result Row Refusal → Result Four Refusal
+row_numbers (Ok r) = Ok (four r.entries)
+row_numbers (Err e) = Err e
 
-abbrev pub checkedStamp : ℕ → Result ℕ Refusal
-checkedStamp n = cond (nat_lt n (2 ^ 63)) (Ok n) (Err Unlawful)
+abbrev pub checked_stamp : ℕ → Result ℕ Refusal
+checked_stamp n = cond (nat_lt n (2 ^ 63)) (Ok n) (Err Unlawful)
 
-abbrev pub checkedReading : ℕ → Result ℕ Refusal
-checkedReading n = cond (nat_lt n (2 ^ 47)) (Ok n) (Err Unlawful)
+abbrev pub checked_reading : ℕ → Result ℕ Refusal
+checked_reading n = cond (nat_lt n (2 ^ 47)) (Ok n) (Err Unlawful)
 
-abbrev pub checkedSite : ℕ → Result ℕ Refusal
-checkedSite n = cond (nat_lt n 4) (Ok n) (Err NotInLayout)
+abbrev pub checked_site : ℕ → Result ℕ Refusal
+checked_site n = cond (nat_lt n 4) (Ok n) (Err NotInLayout)
 
-abbrev pub checkedRow : List ℕ → Result Four Refusal
-checkedRow xs =
+abbrev pub checked_row : List ℕ → Result Four Refusal
+checked_row xs =
     cond (nat_lt (four xs).site0 (2 ^ 63) && (nat_lt (four xs).site1 (2 ^ 63) && (nat_lt (four xs).site2 (2 ^ 63) && nat_lt (four xs).site3 (2 ^ 63))))
     (Ok (four xs))
     (Err Unlawful)

@@ -2,7 +2,7 @@
 use Rattle.std.specs.Prelude.{◌≡◌, ℕ, ◌+◌, ◌^◌, ◌<◌, max, Bool, true, false, cond, ◌||◌, ◌⊎◌, Ok, Err, Result, ◌==◌, nat_le, nat_lt}
 use Rattle.stamps.specs.declared.refusal.Refusal.{Refusal}
 use Rattle.stamps.specs.declared.refusal.Refusal.TheVariants.{Early, End}
-use Rattle.stamps.specs.Stamps.{lastStamp, stampOf, timeOf, count_of}
+use Rattle.stamps.specs.Stamps.{last_stamp, stamp_of, time_of, count_of}
 
 -- what a rule may answer: a stamp above both that it was given, or early, or end
 abbrev pub Allowed : ℕ → ℕ → Result ℕ Refusal → Type 0
@@ -15,25 +15,25 @@ pub record LawfulRule (answer : ℕ → ℕ → ℕ → Result ℕ Refusal) : Ty
 -- raw: the reading's first stamp, if that is above both
 abbrev pub raw : ℕ → ℕ → ℕ → Result ℕ Refusal
 raw last reading dependency =
-    cond (nat_le (stampOf reading 0) last || nat_le (stampOf reading 0) dependency) (Err Early) (Ok (stampOf reading 0))
+    cond (nat_le (stamp_of reading 0) last || nat_le (stamp_of reading 0) dependency) (Err Early) (Ok (stamp_of reading 0))
 
 -- hybrid: the greatest of the three times
-abbrev pub newTime : ℕ → ℕ → ℕ → ℕ
-newTime last reading dependency = max (max (timeOf last) (timeOf dependency)) reading
+abbrev pub new_time : ℕ → ℕ → ℕ → ℕ
+new_time last reading dependency = max (max (time_of last) (time_of dependency)) reading
 
 -- the new count, by whether last's time and dependency's time are the new time, from their counts
-abbrev pub newCount : Bool → Bool → ℕ → ℕ → ℕ
-newCount true true ofLast ofDependency = max ofLast ofDependency + 1
-newCount true false ofLast ofDependency = ofLast + 1
-newCount false true ofLast ofDependency = ofDependency + 1
-newCount false false ofLast ofDependency = 0
+abbrev pub new_count : Bool → Bool → ℕ → ℕ → ℕ
+new_count true true of_last of_dependency = max of_last of_dependency + 1
+new_count true false of_last of_dependency = of_last + 1
+new_count false true of_last of_dependency = of_dependency + 1
+new_count false false of_last of_dependency = 0
 
 -- a count that passes 65,535 makes the time one more and the count 0
 abbrev pub carried : ℕ → ℕ → ℕ
-carried time count = cond (nat_lt 65535 count) (stampOf (time + 1) 0) (stampOf time count)
+carried time count = cond (nat_lt 65535 count) (stamp_of (time + 1) 0) (stamp_of time count)
 
 abbrev pub hybrid : ℕ → ℕ → ℕ → Result ℕ Refusal
 hybrid last reading dependency =
-    let time = newTime last reading dependency in
-    cond (last == lastStamp || dependency == lastStamp) (Err End)
-    (Ok (carried time (newCount (timeOf last == time) (timeOf dependency == time) (count_of last) (count_of dependency))))
+    let time = new_time last reading dependency in
+    cond (last == last_stamp || dependency == last_stamp) (Err End)
+    (Ok (carried time (new_count (time_of last == time) (time_of dependency == time) (count_of last) (count_of dependency))))

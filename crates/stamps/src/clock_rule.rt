@@ -1,7 +1,7 @@
 // What a clock rule is.
 ghost use Rattle.std.specs.Prelude.{◌≡◌, ℕ, Result};
 ghost use Rattle.stamps.specs.declared.refusal.Refusal.{Refusal};
-ghost use Rattle.stamps.specs.Checks.{stampNumber};
+ghost use Rattle.stamps.specs.Checks.{stamp_number};
 ghost use Rattle.stamps.specs.Clocks.{LawfulRule};
 
 use crate::reading::Reading;
@@ -14,7 +14,7 @@ pub trait ClockRule {
     ghost answer: { ℕ → ℕ → ℕ → Result ℕ Refusal };
 
     fn stamp(last: Stamp, reading: Reading, dependency: Stamp) -> Result<Stamp, Refusal>
-        ensures { stampNumber result ≡ answer last.value reading.time dependency.value };
+        ensures { stamp_number result ≡ answer last.value reading.time dependency.value };
 
     // The whole meaning of a rule: an answered stamp is above both stamps, and a refusal is early or end.
     ghost lawful: { LawfulRule answer };

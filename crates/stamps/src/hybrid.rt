@@ -1,8 +1,8 @@
 // The hybrid logical clock: the greatest time known, and a count within it.
 ghost use Rattle.std.specs.Prelude.{◌≡◌, ◌+◌, ◌^◌, ◌<◌, ◌≤◌};
 ghost use Rattle.stamps.specs.Clocks.{hybrid as hybridly, carried};
-ghost use Rattle.stamps.specs.Stamps.{stampOf};
-ghost use Rattle.stamps.specs.BuiltRulesLawful.{hybrid-lawful};
+ghost use Rattle.stamps.specs.Stamps.{stamp_of};
+ghost use Rattle.stamps.specs.BuiltRulesLawful.{hybrid_lawful};
 
 use crate::clock_rule::ClockRule;
 use crate::reading::Reading;
@@ -14,7 +14,7 @@ pub struct Hybrid;
 impl ClockRule for Hybrid {
     ghost answer = { hybridly };
 
-    ghost lawful = { hybrid-lawful };
+    ghost lawful = { hybrid_lawful };
 
     fn stamp(last: Stamp, reading: Reading, dependency: Stamp) -> Result<Stamp, Refusal> {
         let end = Stamp::last();
@@ -34,7 +34,7 @@ impl ClockRule for Hybrid {
 
 // The stamp of a time and a count; a count that passes its 16 bits becomes one more of the time.
 fn carry(time: u64, count: u64) -> Stamp
-    requires { (stampOf time count < 2 ^ 63) × (count ≤ 65536) }
+    requires { (stamp_of time count < 2 ^ 63) × (count ≤ 65536) }
     ensures { result.value ≡ carried time count }
 {
     if count > 65_535 {

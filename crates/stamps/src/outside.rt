@@ -1,8 +1,8 @@
 // Clock rules, asked with plain numbers: these are checked first, stamps before readings.
 ghost use Rattle.std.specs.Prelude.{◌≡◌};
-ghost use Rattle.stamps.specs.Checks.{stampNumber};
+ghost use Rattle.stamps.specs.Checks.{stamp_number};
 ghost use Rattle.stamps.specs.Clocks.{raw as rawly, hybrid as hybridly};
-ghost use Rattle.stamps.specs.Outside.{askedStamp, signedNumber};
+ghost use Rattle.stamps.specs.Outside.{asked_stamp, signed_number};
 
 use crate::clock_rule::ClockRule;
 use crate::hybrid::Hybrid;
@@ -13,7 +13,7 @@ use crate::stamp::Stamp;
 
 // The stamp that a rule answers to three numbers.
 pub fn stamp_from<C: ClockRule>(last: u64, reading: u64, dependency: u64) -> Result<Stamp, Refusal>
-    ensures { stampNumber result ≡ askedStamp C.ClockRule.answer last reading dependency }
+    ensures { stamp_number result ≡ asked_stamp C.ClockRule.answer last reading dependency }
 {
     let last = Stamp::new(last)?;
     let dependency = Stamp::new(dependency)?;
@@ -23,7 +23,7 @@ pub fn stamp_from<C: ClockRule>(last: u64, reading: u64, dependency: u64) -> Res
 
 // An answer as one signed number: the stamp, or minus the refusal's number.
 fn signed(answer: Result<Stamp, Refusal>) -> i64
-    ensures { result ≡ signedNumber (stampNumber answer) }
+    ensures { result ≡ signed_number (stamp_number answer) }
 {
     match answer {
         Ok(stamp) => stamp.value as i64,
@@ -33,14 +33,14 @@ fn signed(answer: Result<Stamp, Refusal>) -> i64
 
 // The raw rule, on plain numbers alone.
 pub fn raw_stamp(last: u64, reading: u64, dependency: u64) -> i64
-    ensures { result ≡ signedNumber (askedStamp rawly last reading dependency) }
+    ensures { result ≡ signed_number (asked_stamp rawly last reading dependency) }
 {
     signed(stamp_from::<Raw>(last, reading, dependency))
 }
 
 // The hybrid rule, on plain numbers alone.
 pub fn hybrid_stamp(last: u64, reading: u64, dependency: u64) -> i64
-    ensures { result ≡ signedNumber (askedStamp hybridly last reading dependency) }
+    ensures { result ≡ signed_number (asked_stamp hybridly last reading dependency) }
 {
     signed(stamp_from::<Hybrid>(last, reading, dependency))
 }

@@ -1,6 +1,6 @@
 // The raw rule: the physical clock alone, refused while it is not ahead.
 ghost use Rattle.stamps.specs.Clocks.{raw as rawly};
-ghost use Rattle.stamps.specs.BuiltRulesLawful.{raw-lawful};
+ghost use Rattle.stamps.specs.BuiltRulesLawful.{raw_lawful};
 
 use crate::clock_rule::ClockRule;
 use crate::reading::Reading;
@@ -12,7 +12,7 @@ pub struct Raw;
 impl ClockRule for Raw {
     ghost answer = { rawly };
 
-    ghost lawful = { raw-lawful };
+    ghost lawful = { raw_lawful };
 
     fn stamp(last: Stamp, reading: Reading, dependency: Stamp) -> Result<Stamp, Refusal> {
         let made = reading.time * 65_536;

@@ -1,6 +1,6 @@
 // The calls on a server's clock.
 ghost use Rattle.std.specs.Prelude.{◌≡◌};
-ghost use Rattle.stamps.specs.Checks.{stampNumber};
+ghost use Rattle.stamps.specs.Checks.{stamp_number};
 ghost use Rattle.stamps.specs.Refusals.{RefusalKeeps};
 ghost use Rattle.model.specs.Calls.{asked};
 ghost use Rattle.model.specs.Events.{tell as Tell, heartbeat as Heartbeat, lead as Lead};
@@ -27,7 +27,7 @@ impl<C: ClockRule, K: MarkKind> Group<C, K> {
 
     // A new stamp of a server for the other sites.
     pub fn heartbeat(&mut self, site: u8, partition: u8) -> Result<Stamp, Refusal>
-        ensures step { (stampNumber result, view self.new) ≡ asked C.ClockRule.answer K.MarkKind.kind (view self.old) (Heartbeat site partition) }
+        ensures step { (stamp_number result, view self.new) ≡ asked C.ClockRule.answer K.MarkKind.kind (view self.old) (Heartbeat site partition) }
         ensures keeps { RefusalKeeps result (view self.old) (view self.new) }
     {
         if !self.layout.has_server(site, partition) {

@@ -1,12 +1,12 @@
 // The calls of sessions on keys.
 ghost use Rattle.std.specs.Prelude.{◌≡◌, Ok as Lawful};
-ghost use Rattle.stamps.specs.Checks.{stampNumber};
+ghost use Rattle.stamps.specs.Checks.{stamp_number};
 ghost use Rattle.stamps.specs.Refusals.{RefusalKeeps};
 ghost use Rattle.servers.specs.Values.{worth};
-ghost use Rattle.model.specs.Groups.{sessionAt};
-ghost use Rattle.model.specs.Calls.{asked, putWorth};
+ghost use Rattle.model.specs.Groups.{session_at};
+ghost use Rattle.model.specs.Calls.{asked, put_worth};
 ghost use Rattle.model.specs.Events.{put as Put, get as Get};
-ghost use Rattle.group.specs.Answers.{shownNumbers};
+ghost use Rattle.group.specs.Answers.{shown_numbers};
 ghost use Rattle.group.specs.Groups.{view};
 
 use super::Group;
@@ -21,7 +21,7 @@ use stamps::stamp::Stamp;
 impl<C: ClockRule, K: MarkKind> Group<C, K> {
     // A new version of a key, made at the session's server.
     pub fn put(&mut self, session: u8, key: u16, kind: u8, amount: u32) -> Result<Stamp, Refusal>
-        ensures step { (stampNumber result, view self.new) ≡ asked C.ClockRule.answer K.MarkKind.kind (view self.old) (Put session key kind amount) }
+        ensures step { (stamp_number result, view self.new) ≡ asked C.ClockRule.answer K.MarkKind.kind (view self.old) (Put session key kind amount) }
         ensures keeps { RefusalKeeps result (view self.old) (view self.new) }
     {
         if !self.has_session(session) {
@@ -33,7 +33,7 @@ impl<C: ClockRule, K: MarkKind> Group<C, K> {
 
     // A put of a lawful value by a session that was opened. The session depends from then on on the new version.
     fn put_value(&mut self, number: u8, key: u16, value: Value) -> Result<Stamp, Refusal>
-        ensures step { (stampNumber result, view self.new) ≡ putWorth C.ClockRule.answer K.MarkKind.kind (view self.old) number key (sessionAt (view self.old) number) (Lawful (worth value)) }
+        ensures step { (stamp_number result, view self.new) ≡ put_worth C.ClockRule.answer K.MarkKind.kind (view self.old) number key (session_at (view self.old) number) (Lawful (worth value)) }
         ensures keeps { RefusalKeeps result (view self.old) (view self.new) }
     {
         let Session {
@@ -59,7 +59,7 @@ impl<C: ClockRule, K: MarkKind> Group<C, K> {
 
     // The latest version of a key that the session's server shows, or none.
     pub fn get(&mut self, session: u8, key: u16) -> Result<Option<Shown>, Refusal>
-        ensures step { (shownNumbers result, view self.new) ≡ asked C.ClockRule.answer K.MarkKind.kind (view self.old) (Get session key) }
+        ensures step { (shown_numbers result, view self.new) ≡ asked C.ClockRule.answer K.MarkKind.kind (view self.old) (Get session key) }
         ensures keeps { RefusalKeeps result (view self.old) (view self.new) }
     {
         if !self.has_session(session) {

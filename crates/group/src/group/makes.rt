@@ -1,7 +1,7 @@
 // The making of a group.
 ghost use Rattle.std.specs.Prelude.{◌≡◌};
 ghost use Rattle.model.specs.Groups.{made};
-ghost use Rattle.model.specs.GroupStore.{groupStore};
+ghost use Rattle.model.specs.GroupStore.{group_store};
 ghost use Rattle.model.specs.Promises.{KeepsPromises};
 ghost use Rattle.group.specs.Groups.{view};
 
@@ -20,7 +20,7 @@ impl<C: ClockRule, K: MarkKind> Group<C, K> {
     // whatever calls are made.
     pub fn new(layout: Layout) -> Self
         ensures state { view result ≡ made layout.sites.number layout.partitions }
-        ensures promises { KeepsPromises (groupStore C.ClockRule.answer K.MarkKind.kind layout.sites.number) (view result) }
+        ensures promises { KeepsPromises (group_store C.ClockRule.answer K.MarkKind.kind layout.sites.number) (view result) }
     {
         let sites = layout.sites();
         let a = Server::new(site_of(0), sites);

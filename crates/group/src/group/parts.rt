@@ -1,14 +1,14 @@
 // One server or one session of a group, looked at or changed.
 ghost use Rattle.std.specs.Prelude.{◌≡◌, ◌<◌, length, Ok as Done, nat_lt};
-ghost use Rattle.stamps.specs.Checks.{stampNumber};
+ghost use Rattle.stamps.specs.Checks.{stamp_number};
 ghost use Rattle.servers.specs.Entries.{sent};
-ghost use Rattle.servers.specs.Servers.{view as serverView, handing, putting, taking, raised, tidiedUp};
-ghost use Rattle.model.specs.Groups.{withServer, withSession, sessionAt};
-ghost use Rattle.model.specs.Calls.{serverLeft, learning, counted};
+ghost use Rattle.servers.specs.Servers.{view as server_view, handing, putting, taking, raised, tidied_up};
+ghost use Rattle.model.specs.Groups.{with_server, with_session, session_at};
+ghost use Rattle.model.specs.Calls.{server_left, learning, counted};
 ghost use Rattle.servers.specs.Values.{worth};
 ghost use Rattle.servers.specs.Versions.{plain};
-ghost use Rattle.group.specs.Groups.{view, dependingOn};
-ghost use Rattle.group.specs.Sessions.{sessionState};
+ghost use Rattle.group.specs.Groups.{view, depending_on};
+ghost use Rattle.group.specs.Sessions.{session_state};
 
 use super::Group;
 use super::places::{place, site_of};
@@ -26,7 +26,7 @@ use stamps::stamp::Stamp;
 impl<C: ClockRule, K: MarkKind> Group<C, K> {
     pub(crate) fn server(&self, site: Site, partition: u8) -> &Server<C, K>
         requires { partition < 4 }
-        ensures { serverView result.now ≡ (view self.now).server site.number partition }
+        ensures { server_view result.now ≡ (view self.now).server site.number partition }
     {
         &self.servers[place(site.number(), partition)]
     }
@@ -34,7 +34,7 @@ impl<C: ClockRule, K: MarkKind> Group<C, K> {
     // A mark is joined into a server's stable mark.
     pub(crate) fn raise(&mut self, site: Site, partition: u8, mark: K::Mark)
         requires { partition < 4 }
-        ensures { view self.new ≡ withServer (view self.old) site.number partition (raised K.MarkKind.kind ((view self.old).server site.number partition) (K.MarkKind.meaning mark)) }
+        ensures { view self.new ≡ with_server (view self.old) site.number partition (raised K.MarkKind.kind ((view self.old).server site.number partition) (K.MarkKind.meaning mark)) }
     {
         self.servers[place(site.number(), partition)].raise(mark);
     }
@@ -48,7 +48,7 @@ impl<C: ClockRule, K: MarkKind> Group<C, K> {
         entry: Entry,
     ) -> Result<(), Refusal>
         requires { partition < 4 }
-        ensures { (result, view self.new) ≡ serverLeft (view self.old) to.number partition (taking ((view self.old).server to.number partition) from.number (sent entry)) }
+        ensures { (result, view self.new) ≡ server_left (view self.old) to.number partition (taking ((view self.old).server to.number partition) from.number (sent entry)) }
     {
         self.servers[place(to.number(), partition)].take(from, entry)
     }
@@ -64,7 +64,7 @@ impl<C: ClockRule, K: MarkKind> Group<C, K> {
         knows: K::Mark,
     ) -> Result<Stamp, Refusal>
         requires { partition < 4 }
-        ensures { (stampNumber result, view self.new) ≡ serverLeft (view self.old) site.number partition (putting C.ClockRule.answer K.MarkKind.kind ((view self.old).server site.number partition) key (worth value) (K.MarkKind.meaning depends) (K.MarkKind.meaning knows)) }
+        ensures { (stamp_number result, view self.new) ≡ server_left (view self.old) site.number partition (putting C.ClockRule.answer K.MarkKind.kind ((view self.old).server site.number partition) key (worth value) (K.MarkKind.meaning depends) (K.MarkKind.meaning knows)) }
     {
         self.servers[place(site.number(), partition)].put(key, value, depends, knows)
     }
@@ -80,7 +80,7 @@ impl<C: ClockRule, K: MarkKind> Group<C, K> {
     // A server drops what is not needed any more under the safe mark.
     pub(crate) fn drop_outdated(&mut self, site: Site, partition: u8, safe: K::Mark) -> usize
         requires { partition < 4 }
-        ensures { (Done result, view self.new) ≡ serverLeft (view self.old) site.number partition (counted (tidiedUp K.MarkKind.kind ((view self.old).server site.number partition) (K.MarkKind.meaning safe))) }
+        ensures { (Done result, view self.new) ≡ server_left (view self.old) site.number partition (counted (tidied_up K.MarkKind.kind ((view self.old).server site.number partition) (K.MarkKind.meaning safe))) }
     {
         self.servers[place(site.number(), partition)].tidy(safe)
     }
@@ -88,7 +88,7 @@ impl<C: ClockRule, K: MarkKind> Group<C, K> {
     // A site has taken the next entry of a server's outbox.
     pub(crate) fn hand_over(&mut self, from: Site, partition: u8, to: Site)
         requires { partition < 4 }
-        ensures { view self.new ≡ withServer (view self.old) from.number partition (handing ((view self.old).server from.number partition) to.number) }
+        ensures { view self.new ≡ with_server (view self.old) from.number partition (handing ((view self.old).server from.number partition) to.number) }
     {
         self.servers[place(from.number(), partition)].hand_over(to);
     }
@@ -102,7 +102,7 @@ impl<C: ClockRule, K: MarkKind> Group<C, K> {
 
     // The session of a number; one at site 0 as it is opened if there is none.
     pub(crate) fn session_at(&self, number: u8) -> Session
-        ensures { sessionState result ≡ sessionAt (view self.now) number }
+        ensures { session_state result ≡ session_at (view self.now) number }
     {
         let sessions = self.sessions.as_slice();
         if (number as usize) < sessions.len() {
@@ -114,7 +114,7 @@ impl<C: ClockRule, K: MarkKind> Group<C, K> {
 
     // The session of a number is replaced, if there is one.
     pub(crate) fn set_session(&mut self, number: u8, session: Session)
-        ensures { view self.new ≡ withSession (view self.old) number (sessionState session) }
+        ensures { view self.new ≡ with_session (view self.old) number (session_state session) }
     {
         self.sessions.set(number as usize, session);
     }
@@ -122,7 +122,7 @@ impl<C: ClockRule, K: MarkKind> Group<C, K> {
     // A session's server hears what the session knows, and the session knows its stable mark from then on.
     pub(crate) fn learn(&mut self, number: u8, partition: u8)
         requires { partition < 4 }
-        ensures { view self.new ≡ learning K.MarkKind.kind (view self.old) number (sessionAt (view self.old) number) partition }
+        ensures { view self.new ≡ learning K.MarkKind.kind (view self.old) number (session_at (view self.old) number) partition }
     {
         let Session {
             site,
@@ -143,7 +143,7 @@ impl<C: ClockRule, K: MarkKind> Group<C, K> {
 
     // A session depends from then on on a version too.
     pub(crate) fn depend(&mut self, number: u8, version: &Version)
-        ensures { view self.new ≡ dependingOn K.MarkKind.kind (view self.old) number (plain version.now) }
+        ensures { view self.new ≡ depending_on K.MarkKind.kind (view self.old) number (plain version.now) }
     {
         let Session {
             site,

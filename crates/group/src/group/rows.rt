@@ -2,10 +2,10 @@
 ghost use Rattle.std.specs.Prelude.{◌≡◌, ◌++◌};
 ghost use Rattle.fixed_vec.specs.Items.{items};
 ghost use Rattle.marks.specs.CommonFloors.{numbers};
-ghost use Rattle.model.specs.Groups.{reportedAt, stableAt, cutsAt, seatAt};
+ghost use Rattle.model.specs.Groups.{reported_at, stable_at, cuts_at, seat_at};
 ghost use Rattle.std.specs.Option.{option_map};
 ghost use Rattle.group.specs.Groups.{view};
-ghost use Rattle.group.specs.Sessions.{cut_in, rowNumbers};
+ghost use Rattle.group.specs.Sessions.{cut_in, row_numbers};
 
 use super::Group;
 use fixed_vec::FixedVec;
@@ -21,7 +21,7 @@ pub(crate) const MOST_ROWS: usize = 8;
 impl<C: ClockRule, K: MarkKind> Group<C, K> {
     // The reported marks of a site's servers.
     pub(crate) fn reported_rows(&self, site: Site) -> FixedVec<Row, MOST_ROWS>
-        ensures { numbers (items result) ≡ reportedAt (view self.now) site.number }
+        ensures { numbers (items result) ≡ reported_at (view self.now) site.number }
     {
         let mut rows = FixedVec::new(Row::same(Stamp::zero()));
         for partition in 0..self.layout.partitions() {
@@ -32,7 +32,7 @@ impl<C: ClockRule, K: MarkKind> Group<C, K> {
 
     // The stable marks of a site's servers.
     pub(crate) fn stable_rows(&self, site: Site) -> FixedVec<Row, MOST_ROWS>
-        ensures { numbers (items result) ≡ stableAt (view self.now) site.number }
+        ensures { numbers (items result) ≡ stable_at (view self.now) site.number }
     {
         let mut rows = FixedVec::new(Row::same(Stamp::zero()));
         for partition in 0..self.layout.partitions() {
@@ -43,7 +43,7 @@ impl<C: ClockRule, K: MarkKind> Group<C, K> {
 
     // The stable marks of a site's servers, and the cuts of the open snapshots of its sessions.
     pub(crate) fn safe_rows(&self, site: Site) -> FixedVec<Row, MOST_ROWS>
-        ensures { numbers (items result) ≡ stableAt (view self.now) site.number ++ cutsAt (view self.now) site.number }
+        ensures { numbers (items result) ≡ stable_at (view self.now) site.number ++ cuts_at (view self.now) site.number }
     {
         let mut rows = self.stable_rows(site);
         for seat in 0..self.seats.count() {
@@ -56,7 +56,7 @@ impl<C: ClockRule, K: MarkKind> Group<C, K> {
 
     // The cut of the open snapshot at a seat, if its session is at the site.
     fn cut_at(&self, number: u8, site: Site) -> Option<Row>
-        ensures { option_map rowNumbers result ≡ cut_in (view self.now) site.number (seatAt (view self.now) number) }
+        ensures { option_map row_numbers result ≡ cut_in (view self.now) site.number (seat_at (view self.now) number) }
     {
         let seat = self.seats.at(number)?;
         if self.session_at(seat.session).site.number() != site.number() {

@@ -2,12 +2,12 @@
 ghost use Rattle.std.specs.Prelude.{◌≡◌, suc, ◌+◌, ◌-◌, ◌^◌, ◌<◌, Some as Taken};
 ghost use Rattle.stamps.specs.Refusals.{RefusalKeeps};
 ghost use Rattle.stamps.specs.Rows.{four};
-ghost use Rattle.model.specs.Groups.{seatAt, withSeat};
+ghost use Rattle.model.specs.Groups.{seat_at, with_seat};
 ghost use Rattle.model.specs.Calls.{asked};
-ghost use Rattle.model.specs.Events.{openSnapshot, read as Read, close as Close};
-ghost use Rattle.group.specs.Answers.{shownNumbers, ticketState, ticketNumbers};
+ghost use Rattle.model.specs.Events.{open_snapshot, read as Read, close as Close};
+ghost use Rattle.group.specs.Answers.{shown_numbers, ticket_state, ticket_numbers};
 ghost use Rattle.group.specs.Groups.{view};
-ghost use Rattle.group.specs.Sessions.{open_at, seatNumbers, seatState};
+ghost use Rattle.group.specs.Sessions.{open_at, seat_numbers, seat_state};
 
 use super::Group;
 use crate::seat::Seat;
@@ -21,7 +21,7 @@ use stamps::row::Row;
 impl<C: ClockRule, K: MarkKind> Group<C, K> {
     // A fixed view of the session's site, as far as one of its servers and the session know it to be stable.
     pub fn open_snapshot(&mut self, session: u8, partition: u8) -> Result<Ticket, Refusal>
-        ensures step { (ticketNumbers result, view self.new) ≡ asked C.ClockRule.answer K.MarkKind.kind (view self.old) (openSnapshot session partition) }
+        ensures step { (ticket_numbers result, view self.new) ≡ asked C.ClockRule.answer K.MarkKind.kind (view self.old) (open_snapshot session partition) }
         ensures keeps { RefusalKeeps result (view self.old) (view self.new) }
     {
         if partition >= self.layout.partitions() {
@@ -46,8 +46,8 @@ impl<C: ClockRule, K: MarkKind> Group<C, K> {
     // A seat that is free is taken, under the next serial number.
     fn take_seat(&mut self, number: u8, session: u8, cut: Row) -> Ticket
         requires { (number < 4) × (self.old.next_serial < 2 ^ 32 - 1) }
-        ensures ticket { (result.seat ≡ number) × (result.serial ≡ (view self.old).nextSerial) }
-        ensures seated { view self.new ≡ withSeat (view self.old) number (Taken (record { session = session; serial = (view self.old).nextSerial; cut = four cut.entries })) (suc (view self.old).nextSerial) }
+        ensures ticket { (result.seat ≡ number) × (result.serial ≡ (view self.old).next_serial) }
+        ensures seated { view self.new ≡ with_seat (view self.old) number (Taken (record { session = session; serial = (view self.old).next_serial; cut = four cut.entries })) (suc (view self.old).next_serial) }
     {
         let serial = self.next_serial;
         let seat = Seat {
@@ -65,7 +65,7 @@ impl<C: ClockRule, K: MarkKind> Group<C, K> {
 
     // The snapshot of a ticket, if the ticket's seat is open under its serial number.
     fn open_seat(&self, ticket: &Ticket) -> Result<Seat, Refusal>
-        ensures { seatNumbers result ≡ open_at ticket.now.serial (seatAt (view self.now) ticket.now.seat) }
+        ensures { seat_numbers result ≡ open_at ticket.now.serial (seat_at (view self.now) ticket.now.seat) }
     {
         let held = self.seats.at(ticket.seat);
         match held {
@@ -76,7 +76,7 @@ impl<C: ClockRule, K: MarkKind> Group<C, K> {
 
     // The latest version of a key that the snapshot's cut covers, or none.
     pub fn read(&mut self, ticket: &Ticket, key: u16) -> Result<Option<Shown>, Refusal>
-        ensures step { (shownNumbers result, view self.new) ≡ asked C.ClockRule.answer K.MarkKind.kind (view self.old) (Read (ticketState ticket.now) key) }
+        ensures step { (shown_numbers result, view self.new) ≡ asked C.ClockRule.answer K.MarkKind.kind (view self.old) (Read (ticket_state ticket.now) key) }
         ensures keeps { RefusalKeeps result (view self.old) (view self.new) }
     {
         let seat = self.open_seat(ticket)?;
@@ -93,7 +93,7 @@ impl<C: ClockRule, K: MarkKind> Group<C, K> {
 
     // The end of a snapshot. The ticket is taken in either case, done or refused.
     pub fn close(&mut self, ticket: Ticket) -> Result<(), Refusal>
-        ensures step { (result, view self.new) ≡ asked C.ClockRule.answer K.MarkKind.kind (view self.old) (Close (ticketState ticket)) }
+        ensures step { (result, view self.new) ≡ asked C.ClockRule.answer K.MarkKind.kind (view self.old) (Close (ticket_state ticket)) }
         ensures keeps { RefusalKeeps result (view self.old) (view self.new) }
     {
         let open = self.open_seat(&ticket);

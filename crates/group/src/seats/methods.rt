@@ -1,15 +1,15 @@
 // The methods of `Seats`.
 ghost use Rattle.std.specs.Prelude.{◌≡◌, [], ◌∷◌, length, None as Free, slice_index_or, slice_set};
 ghost use Rattle.std.specs.Option.{option_map};
-ghost use Rattle.model.specs.Groups.{lowestFree};
-ghost use Rattle.group.specs.Sessions.{seatState, seatStates};
+ghost use Rattle.model.specs.Groups.{lowest_free};
+ghost use Rattle.group.specs.Sessions.{seat_state, seat_states};
 
 use super::{SEAT_COUNT, Seats};
 use crate::seat::Seat;
 
 impl Seats {
     pub(crate) fn new() -> Seats
-        ensures { seatStates result ≡ Free ∷ Free ∷ Free ∷ Free ∷ [] }
+        ensures { seat_states result ≡ Free ∷ Free ∷ Free ∷ Free ∷ [] }
     {
         Seats {
             places: [None; SEAT_COUNT],
@@ -18,7 +18,7 @@ impl Seats {
 
     // How many seats there are.
     pub(crate) fn count(&self) -> u8
-        ensures { (result ≡ length (seatStates self.now)) × (result ≡ 4) }
+        ensures { (result ≡ length (seat_states self.now)) × (result ≡ 4) }
     {
         let places = &self.places[..];
         places.len() as u8
@@ -26,7 +26,7 @@ impl Seats {
 
     // The open snapshot at a seat; none if the seat is free, or if there is no such seat.
     pub(crate) fn at(&self, number: u8) -> Option<Seat>
-        ensures { option_map seatState result ≡ slice_index_or (seatStates self.now) number Free }
+        ensures { option_map seat_state result ≡ slice_index_or (seat_states self.now) number Free }
     {
         let places = &self.places[..];
         if (number as usize) < places.len() {
@@ -38,7 +38,7 @@ impl Seats {
 
     // The lowest free seat; their number if none is free.
     pub(crate) fn lowest_free(&self) -> u8
-        ensures { result ≡ lowestFree (seatStates self.now) }
+        ensures { result ≡ lowest_free (seat_states self.now) }
     {
         let count = self.count();
         for number in 0..count {
@@ -51,7 +51,7 @@ impl Seats {
 
     // A seat is taken by a snapshot, or becomes free. Where there is no such seat, nothing changes.
     pub(crate) fn set(&mut self, number: u8, seat: Option<Seat>)
-        ensures { seatStates self.new ≡ slice_set (seatStates self.old) number (option_map seatState seat) }
+        ensures { seat_states self.new ≡ slice_set (seat_states self.old) number (option_map seat_state seat) }
     {
         if number < self.count() {
             self.places[number as usize] = seat;

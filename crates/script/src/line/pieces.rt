@@ -1,6 +1,6 @@
 // Bytes and numbers put at the end of a line.
-ghost use Rattle.std.specs.Prelude.{◌≡◌, ◌≤◌, [], ◌∷◌, length, decimal as digitsOf};
-ghost use Rattle.std.specs.Fmt.{signed_decimal as signedDigits};
+ghost use Rattle.std.specs.Prelude.{◌≡◌, ◌≤◌, [], ◌∷◌, length, decimal as digits_of};
+ghost use Rattle.std.specs.Fmt.{signed_decimal as signed_digits};
 ghost use Rattle.script.specs.Lines.{text_of, onto};
 
 use super::Line;
@@ -37,7 +37,7 @@ impl Line {
 
     // A number in decimal digits.
     pub(crate) fn decimal(&mut self, number: u64)
-        ensures { text_of self.new ≡ onto (text_of self.old) (digitsOf number) }
+        ensures { text_of self.new ≡ onto (text_of self.old) (digits_of number) }
     {
         if number >= 100 {
             self.decimal(number / 100);
@@ -50,8 +50,8 @@ impl Line {
 
     // A number in decimal digits, with a minus in front if it is below 0.
     pub(crate) fn signed(&mut self, number: i64)
-        ensures text { text_of self.new ≡ onto (text_of self.old) (signedDigits number) }
-        ensures short { length (signedDigits number) ≤ 20 }
+        ensures text { text_of self.new ≡ onto (text_of self.old) (signed_digits number) }
+        ensures short { length (signed_digits number) ≤ 20 }
     {
         if number < 0 {
             self.byte(b'-');

@@ -1,9 +1,9 @@
 // Answers put at the end of a line.
-ghost use Rattle.std.specs.Prelude.{◌≡◌, ◌≤◌, ◌++◌, length, decimal as digitsOf};
+ghost use Rattle.std.specs.Prelude.{◌≡◌, ◌≤◌, ◌++◌, length, decimal as digits_of};
 ghost use Rattle.std.specs.Option.{option_map};
-ghost use Rattle.servers.specs.Values.{worth, basisWorth};
-ghost use Rattle.group.specs.Answers.{shownState, shownNumbers};
-ghost use Rattle.script.specs.Answers.{said, printed, stampText, refusalText, valueText, versionText, shownText, readText};
+ghost use Rattle.servers.specs.Values.{worth, basis_worth};
+ghost use Rattle.group.specs.Answers.{shown_state, shown_numbers};
+ghost use Rattle.script.specs.Answers.{said, printed, stamp_text, refusal_text, value_text, version_text, shown_text, read_text};
 ghost use Rattle.script.specs.Lines.{text_of, onto};
 
 use super::Line;
@@ -35,8 +35,8 @@ impl Line {
 
     // What one read answers.
     fn read(&mut self, res: Result<Option<Shown>, Refusal>)
-        ensures text { text_of self.new ≡ onto (text_of self.old) (readText (shownNumbers res)) }
-        ensures short { length (readText (shownNumbers res)) ≤ 42 }
+        ensures text { text_of self.new ≡ onto (text_of self.old) (read_text (shown_numbers res)) }
+        ensures short { length (read_text (shown_numbers res)) ≤ 42 }
     {
         match res {
             Ok(version) => self.shown(version),
@@ -45,8 +45,8 @@ impl Line {
     }
 
     fn shown(&mut self, version: Option<Shown>)
-        ensures text { text_of self.new ≡ onto (text_of self.old) (shownText (option_map shownState version)) }
-        ensures short { length (shownText (option_map shownState version)) ≤ 42 }
+        ensures text { text_of self.new ≡ onto (text_of self.old) (shown_text (option_map shown_state version)) }
+        ensures short { length (shown_text (option_map shown_state version)) ≤ 42 }
     {
         match version {
             None => self.text(b"none"),
@@ -56,8 +56,8 @@ impl Line {
 
     // A version as its value, its stamp and its source.
     fn version(&mut self, version: Shown)
-        ensures text { text_of self.new ≡ onto (text_of self.old) (versionText (shownState version)) }
-        ensures short { length (versionText (shownState version)) ≤ 42 }
+        ensures text { text_of self.new ≡ onto (text_of self.old) (version_text (shown_state version)) }
+        ensures short { length (version_text (shown_state version)) ≤ 42 }
     {
         self.value(version.value);
         self.byte(b' ');
@@ -67,8 +67,8 @@ impl Line {
     }
 
     fn value(&mut self, value: Value)
-        ensures text { text_of self.new ≡ onto (text_of self.old) (valueText (worth value)) }
-        ensures short { length (valueText (worth value)) ≤ 18 }
+        ensures text { text_of self.new ≡ onto (text_of self.old) (value_text (worth value)) }
+        ensures short { length (value_text (worth value)) ≤ 18 }
     {
         match value {
             Value::Gone => self.text(b"gone"),
@@ -79,8 +79,8 @@ impl Line {
     }
 
     fn basis(&mut self, basis: Basis)
-        ensures text { text_of self.new ≡ onto (text_of self.old) (valueText (basisWorth basis)) }
-        ensures short { length (valueText (basisWorth basis)) ≤ 18 }
+        ensures text { text_of self.new ≡ onto (text_of self.old) (value_text (basis_worth basis)) }
+        ensures short { length (value_text (basis_worth basis)) ≤ 18 }
     {
         match basis {
             Basis::Part => self.text(b"basis part"),
@@ -90,8 +90,8 @@ impl Line {
 
     // A word and a number.
     fn amount(&mut self, word: &[u8], number: u32)
-        ensures text { text_of self.new ≡ onto (text_of self.old) (word.now ++ digitsOf number) }
-        ensures short { length (digitsOf number) ≤ 10 }
+        ensures text { text_of self.new ≡ onto (text_of self.old) (word.now ++ digits_of number) }
+        ensures short { length (digits_of number) ≤ 10 }
     {
         self.text(word);
         self.decimal(u64::from(number));
@@ -99,8 +99,8 @@ impl Line {
 
     // A stamp as its time and its count.
     fn stamp(&mut self, stamp: Stamp)
-        ensures text { text_of self.new ≡ onto (text_of self.old) (stampText stamp.value) }
-        ensures short { length (stampText stamp.value) ≤ 21 }
+        ensures text { text_of self.new ≡ onto (text_of self.old) (stamp_text stamp.value) }
+        ensures short { length (stamp_text stamp.value) ≤ 21 }
     {
         self.decimal(stamp.time());
         self.byte(b'.');
@@ -108,8 +108,8 @@ impl Line {
     }
 
     fn refusal(&mut self, why: Refusal)
-        ensures text { text_of self.new ≡ onto (text_of self.old) (refusalText why) }
-        ensures short { length (refusalText why) ≤ 5 }
+        ensures text { text_of self.new ≡ onto (text_of self.old) (refusal_text why) }
+        ensures short { length (refusal_text why) ≤ 5 }
     {
         self.text(b"no ");
         self.decimal(u64::from(why.number()));

@@ -1,7 +1,7 @@
 // One whole line, into a lent buffer.
 ghost use Rattle.std.specs.Prelude.{◌≡◌, ◌≤◌, ◌++◌, length, drop};
 ghost use Rattle.script.specs.Answers.{said};
-ghost use Rattle.script.specs.Lines.{line_of, listedLetter, text_of};
+ghost use Rattle.script.specs.Lines.{line_of, listed_letter, text_of};
 
 use super::Line;
 use crate::answer::Answer;
@@ -37,7 +37,7 @@ fn make_line(number: u32, letter: char, answer: Answer) -> Line
 
 // A letter that no command has is listed as a question mark.
 fn listed(letter: char) -> u8
-    ensures { result ≡ listedLetter letter }
+    ensures { result ≡ listed_letter letter }
 {
     match letter {
         'L' => b'L',

@@ -1,7 +1,7 @@
 // The making of a script, and its next line.
 ghost use Rattle.std.specs.Prelude.{◌≡◌, ◌<◌, ◌≤◌, length, ◌==◌, IfOk, Ok as Listed, Some as Line};
 ghost use Rattle.script.specs.Answers.{said};
-ghost use Rattle.script.specs.Scripts.{view, begun, stepped, endedBy, next, written, lineInto, AtMost96};
+ghost use Rattle.script.specs.Scripts.{view, begun, stepped, ended_by, next, written, line_into, AtMost96};
 
 use super::Script;
 use crate::answer::Answer;
@@ -38,7 +38,7 @@ impl<'a> Script<'a> {
     // Performs the next command and writes its line to the start of the buffer: the line's length, or none if the
     // script has ended.
     pub fn next_line(&mut self, buffer: &mut [u8]) -> Result<Option<usize>, Refusal>
-        ensures value { (result, view self.new, buffer.new) ≡ lineInto (view self.old) buffer.old }
+        ensures value { (result, view self.new, buffer.new) ≡ line_into (view self.old) buffer.old }
         ensures short { IfOk result AtMost96 }
     {
         if buffer.len() < MOST_BYTES {
@@ -89,7 +89,7 @@ impl<'a> Script<'a> {
 
     // Nothing is listed after this refusal.
     fn end(&mut self, why: Refusal) -> Answer
-        ensures { (said result, view self.new) ≡ endedBy (view self.old) why }
+        ensures { (said result, view self.new) ≡ ended_by (view self.old) why }
     {
         self.rest = &[];
         Answer::Refused(why)

@@ -1,7 +1,7 @@
 // The methods of `Counts`.
 ghost use Rattle.std.specs.Prelude.{◌≡◌, ◌-◌, ◌<◌};
-ghost use Rattle.stamps.specs.Rows.{at, same, greatest, withEntry};
-ghost use Rattle.servers.specs.Counting.{counts, oneMore};
+ghost use Rattle.stamps.specs.Rows.{at, same, greatest, with_entry};
+ghost use Rattle.servers.specs.Counting.{counts, one_more};
 
 use super::Counts;
 use crate::site_count::SiteCount;
@@ -30,7 +30,7 @@ impl Counts {
     // One more for each other site of a layout.
     pub(crate) fn one_more(&self, own: Site, sites: SiteCount) -> Counts
         requires { greatest (counts self.now) < 255 }
-        ensures { counts result ≡ oneMore own.number sites.number (counts self.now) }
+        ensures { counts result ≡ one_more own.number sites.number (counts self.now) }
     {
         let [a, b, c, d] = self.numbers;
         let [e, f, g, h] = [
@@ -51,7 +51,7 @@ impl Counts {
 
     // One less for a site, and never below 0.
     pub(crate) fn one_less(&self, site: Site) -> Counts
-        ensures { counts result ≡ withEntry (counts self.now) site.number (at (counts self.now) site.number - 1) }
+        ensures { counts result ≡ with_entry (counts self.now) site.number (at (counts self.now) site.number - 1) }
     {
         let mut numbers = self.numbers;
         let index = site.number() as usize;

@@ -3,7 +3,7 @@ ghost use Rattle.std.specs.Prelude.{◌≡◌};
 ghost use Rattle.std.specs.Option.{option_map};
 ghost use Rattle.servers.specs.Entries.{sent};
 ghost use Rattle.servers.specs.Laws.{QueueLaw};
-ghost use Rattle.servers.specs.Outboxes.{waiting, noneWaiting, outboxFull, issued, nextFor, takenBy, issuedIfRoom};
+ghost use Rattle.servers.specs.Outboxes.{waiting, none_waiting, outbox_full, issued, next_for, taken_by, issued_if_room};
 
 use super::{MOST_ENTRIES, Outbox};
 use crate::counts::Counts;
@@ -15,7 +15,7 @@ use stamps::stamp::Stamp;
 
 impl Outbox {
     pub(crate) fn new(own: Site, sites: SiteCount) -> Outbox
-        ensures empty { waiting result ≡ noneWaiting }
+        ensures empty { waiting result ≡ none_waiting }
         ensures law { QueueLaw own.number sites.number }
         ensures own { result.own.number ≡ own.number }
         ensures sites { result.sites.number ≡ sites.number }
@@ -37,14 +37,14 @@ impl Outbox {
 
     // Whether some other site has as many entries still to take as are kept for it.
     pub(crate) fn is_full(&self) -> bool
-        ensures { result ≡ outboxFull self.now.own.number self.now.sites.number (waiting self.now) }
+        ensures { result ≡ outbox_full self.now.own.number self.now.sites.number (waiting self.now) }
     {
         self.entries.len() >= MOST_ENTRIES
     }
 
     // One entry more for every other site; a full outbox stays as it is.
     pub(crate) fn issue(&mut self, entry: Entry)
-        ensures queues { waiting self.new ≡ issuedIfRoom self.old.own.number self.old.sites.number (waiting self.old) (sent entry) }
+        ensures queues { waiting self.new ≡ issued_if_room self.old.own.number self.old.sites.number (waiting self.old) (sent entry) }
         ensures own { self.new.own.number ≡ self.old.own.number }
         ensures sites { self.new.sites.number ≡ self.old.sites.number }
     {
@@ -57,7 +57,7 @@ impl Outbox {
 
     // The next entry that a site has still to take.
     pub(crate) fn next_for(&self, site: Site) -> Option<Entry>
-        ensures { option_map sent result ≡ nextFor (waiting self.now) site.number }
+        ensures { option_map sent result ≡ next_for (waiting self.now) site.number }
     {
         let entries = self.entries.as_slice();
         let left = self.left.at(site) as usize;
@@ -69,7 +69,7 @@ impl Outbox {
 
     // A site takes its next entry, if there is one. What no site has still to take any more is gone.
     pub(crate) fn take(&mut self, site: Site)
-        ensures queues { waiting self.new ≡ takenBy (waiting self.old) site.number }
+        ensures queues { waiting self.new ≡ taken_by (waiting self.old) site.number }
         ensures own { self.new.own.number ≡ self.old.own.number }
         ensures sites { self.new.sites.number ≡ self.old.sites.number }
     {

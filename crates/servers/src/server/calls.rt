@@ -1,15 +1,15 @@
 // A server's part of the calls that tell its clock and send its entries.
 ghost use Rattle.std.specs.Prelude.{◌≡◌, false, ◌==◌};
-ghost use Rattle.stamps.specs.Checks.{stampNumber};
+ghost use Rattle.stamps.specs.Checks.{stamp_number};
 ghost use Rattle.stamps.specs.Refusals.{RefusalKeeps};
 ghost use Rattle.stamps.specs.Rows.{greatest};
 ghost use Rattle.std.specs.Option.{option_map};
 ghost use Rattle.servers.specs.Entries.{sent};
 ghost use Rattle.servers.specs.Laws.{Above};
-ghost use Rattle.servers.specs.Outboxes.{nextFor, outboxFull};
-ghost use Rattle.servers.specs.Tables.{tableFull};
+ghost use Rattle.servers.specs.Outboxes.{next_for, outbox_full};
+ghost use Rattle.servers.specs.Tables.{table_full};
 ghost use Rattle.servers.specs.Values.{worth};
-ghost use Rattle.servers.specs.Servers.{view, last_of, told, beaten, putting, puttingAt, handing, taking, takingOther, leadOf};
+ghost use Rattle.servers.specs.Servers.{view, last_of, told, beaten, putting, putting_at, handing, taking, taking_other, lead_of};
 
 use super::Server;
 use crate::entry::Entry;
@@ -38,8 +38,8 @@ impl<C: ClockRule, K: MarkKind> Server<C, K> {
 
     // A new stamp for the other sites, with nothing written.
     pub fn heartbeat(&mut self) -> Result<Stamp, Refusal>
-        ensures step { (stampNumber result, view self.new) ≡ beaten C.ClockRule.answer (view self.old) }
-        ensures rises { Above (last_of (view self.old)) (stampNumber result) }
+        ensures step { (stamp_number result, view self.new) ≡ beaten C.ClockRule.answer (view self.old) }
+        ensures rises { Above (last_of (view self.old)) (stamp_number result) }
         ensures keeps { RefusalKeeps result (view self.old) (view self.new) }
     {
         if self.outbox.is_full() {
@@ -60,8 +60,8 @@ impl<C: ClockRule, K: MarkKind> Server<C, K> {
         depends: K::Mark,
         knows: K::Mark,
     ) -> Result<Stamp, Refusal>
-        ensures step { (stampNumber result, view self.new) ≡ putting C.ClockRule.answer K.MarkKind.kind (view self.old) key (worth value) (K.MarkKind.meaning depends) (K.MarkKind.meaning knows) }
-        ensures rises { Above (last_of (view self.old)) (stampNumber result) }
+        ensures step { (stamp_number result, view self.new) ≡ putting C.ClockRule.answer K.MarkKind.kind (view self.old) key (worth value) (K.MarkKind.meaning depends) (K.MarkKind.meaning knows) }
+        ensures rises { Above (last_of (view self.old)) (stamp_number result) }
         ensures keeps { RefusalKeeps result (view self.old) (view self.new) }
     {
         if self.table.is_full() {
@@ -81,9 +81,9 @@ impl<C: ClockRule, K: MarkKind> Server<C, K> {
         depends: K::Mark,
         knows: K::Mark,
     ) -> Result<Stamp, Refusal>
-        requires { (tableFull (view self.old).held ≡ false) × (outboxFull (view self.old).site (view self.old).sites (view self.old).waiting ≡ false) }
-        ensures step { (stampNumber result, view self.new) ≡ puttingAt K.MarkKind.kind (view self.old) key (worth value) (K.MarkKind.meaning depends) (K.MarkKind.meaning knows) (C.ClockRule.answer (last_of (view self.old)) (view self.old).reading (greatest (K.MarkKind.meaning depends))) }
-        ensures rises { Above (last_of (view self.old)) (stampNumber result) }
+        requires { (table_full (view self.old).held ≡ false) × (outbox_full (view self.old).site (view self.old).sites (view self.old).waiting ≡ false) }
+        ensures step { (stamp_number result, view self.new) ≡ putting_at K.MarkKind.kind (view self.old) key (worth value) (K.MarkKind.meaning depends) (K.MarkKind.meaning knows) (C.ClockRule.answer (last_of (view self.old)) (view self.old).reading (greatest (K.MarkKind.meaning depends))) }
+        ensures rises { Above (last_of (view self.old)) (stamp_number result) }
         ensures keeps { RefusalKeeps result (view self.old) (view self.new) }
     {
         let source = self.outbox.own();
@@ -105,8 +105,8 @@ impl<C: ClockRule, K: MarkKind> Server<C, K> {
 
     // The stamp that the rule gives after the last one and a dependency.
     fn next_stamp(&self, dependency: Stamp) -> Result<Stamp, Refusal>
-        ensures value { stampNumber result ≡ C.ClockRule.answer (last_of (view self.now)) self.now.reading.time dependency.value }
-        ensures rises { Above (last_of (view self.now)) (stampNumber result) }
+        ensures value { stamp_number result ≡ C.ClockRule.answer (last_of (view self.now)) self.now.reading.time dependency.value }
+        ensures rises { Above (last_of (view self.now)) (stamp_number result) }
     {
         C::stamp(
             self.received.at(self.outbox.own()),
@@ -117,7 +117,7 @@ impl<C: ClockRule, K: MarkKind> Server<C, K> {
 
     // The next entry that a site has still to take from this server.
     pub fn next_for(&self, site: Site) -> Option<Entry>
-        ensures { option_map sent result ≡ nextFor (view self.now).waiting site.number }
+        ensures { option_map sent result ≡ next_for (view self.now).waiting site.number }
     {
         self.outbox.next_for(site)
     }
@@ -149,7 +149,7 @@ impl<C: ClockRule, K: MarkKind> Server<C, K> {
 
     // The same from another site.
     fn take_other(&mut self, from: Site, entry: Entry) -> Result<(), Refusal>
-        ensures step { (result, view self.new) ≡ takingOther (view self.old) from.number (sent entry) }
+        ensures step { (result, view self.new) ≡ taking_other (view self.old) from.number (sent entry) }
         ensures keeps { RefusalKeeps result (view self.old) (view self.new) }
     {
         if let Entry::Update(taken) = entry {
@@ -164,7 +164,7 @@ impl<C: ClockRule, K: MarkKind> Server<C, K> {
 
     // How far the last stamp's time is ahead of the reading.
     pub fn lead(&self) -> i64
-        ensures { result ≡ leadOf (view self.now) }
+        ensures { result ≡ lead_of (view self.now) }
     {
         let last = self.received.at(self.outbox.own());
         last.time() as i64 - self.reading.time() as i64

@@ -2,7 +2,7 @@
 ghost use Rattle.std.specs.Prelude.{◌≡◌};
 ghost use Rattle.stamps.specs.Rows.{four};
 ghost use Rattle.servers.specs.Laws.{QueueLaw, RisingLaw};
-ghost use Rattle.servers.specs.Servers.{view, fresh, firstReceived, firstEntry};
+ghost use Rattle.servers.specs.Servers.{view, fresh, first_received, first_entry};
 
 use super::Server;
 use crate::outbox::Outbox;
@@ -54,7 +54,7 @@ fn stamps_rise<C: ClockRule, K: MarkKind>(site: Site, sites: SiteCount)
 
 // What was received before anything was taken.
 fn first_received(sites: SiteCount) -> Row
-    ensures { four result.entries ≡ firstReceived sites.number }
+    ensures { four result.entries ≡ first_received sites.number }
 {
     Row::of(
         first_entry(sites, 0),
@@ -66,7 +66,7 @@ fn first_received(sites: SiteCount) -> Row
 
 // 0.0 for a site of the layout; the greatest stamp for one that the layout lacks.
 fn first_entry(sites: SiteCount, site: u8) -> Stamp
-    ensures { result.value ≡ firstEntry sites.number site }
+    ensures { result.value ≡ first_entry sites.number site }
 {
     if site < sites.number() {
         Stamp::zero()

@@ -3,7 +3,7 @@ ghost use Rattle.std.specs.Prelude.{◌≡◌};
 ghost use Rattle.servers.specs.Held.{shown};
 ghost use Rattle.servers.specs.Laws.{IsLatest, IsTidied};
 ghost use Rattle.servers.specs.Tables.{covered};
-ghost use Rattle.servers.specs.Servers.{view, sees, latestVisible, latestCovered, tidiedUp};
+ghost use Rattle.servers.specs.Servers.{view, sees, latest_visible, latest_covered, tidied_up};
 
 use super::Server;
 use crate::sight::{Covered, Visible};
@@ -22,7 +22,7 @@ impl<C: ClockRule, K: MarkKind> Server<C, K> {
 
     // The latest version of a key that is local or that the stable mark covers.
     pub fn latest_visible(&self, key: u16) -> Option<Version>
-        ensures value { shown result ≡ latestVisible K.MarkKind.kind (view self.now) key }
+        ensures value { shown result ≡ latest_visible K.MarkKind.kind (view self.now) key }
         ensures law { IsLatest (sees K.MarkKind.kind (view self.now)) key (view self.now).held (shown result) }
     {
         let sight = Visible::<K> {
@@ -34,7 +34,7 @@ impl<C: ClockRule, K: MarkKind> Server<C, K> {
 
     // The latest version of a key that a cut covers.
     pub fn latest_covered(&self, key: u16, cut: K::Mark) -> Option<Version>
-        ensures value { shown result ≡ latestCovered K.MarkKind.kind (view self.now) key (K.MarkKind.meaning cut) }
+        ensures value { shown result ≡ latest_covered K.MarkKind.kind (view self.now) key (K.MarkKind.meaning cut) }
         ensures law { IsLatest (covered K.MarkKind.kind (K.MarkKind.meaning cut)) key (view self.now).held (shown result) }
     {
         let sight = Covered::<K> { cut };
@@ -43,7 +43,7 @@ impl<C: ClockRule, K: MarkKind> Server<C, K> {
 
     // Drops the versions that are not needed any more under the safe mark, and answers how many.
     pub fn tidy(&mut self, safe: K::Mark) -> usize
-        ensures step { (result, view self.new) ≡ tidiedUp K.MarkKind.kind (view self.old) (K.MarkKind.meaning safe) }
+        ensures step { (result, view self.new) ≡ tidied_up K.MarkKind.kind (view self.old) (K.MarkKind.meaning safe) }
         ensures law { IsTidied K.MarkKind.kind (K.MarkKind.meaning safe) (view self.old).held (view self.new).held result }
     {
         self.table.tidy::<K>(safe)

@@ -1,7 +1,7 @@
 // How a count of sites is made and read.
 ghost use Rattle.std.specs.Prelude.{◌≡◌};
-ghost use Rattle.servers.specs.Others.{isOther};
-ghost use Rattle.servers.specs.SiteCounts.{count_of, checkedCount};
+ghost use Rattle.servers.specs.Others.{is_other};
+ghost use Rattle.servers.specs.SiteCounts.{count_of, checked_count};
 
 use super::SiteCount;
 use stamps::refusal::Refusal;
@@ -10,7 +10,7 @@ use stamps::site::Site;
 impl SiteCount {
     // The count of a plain number; refused unless it is 2 to 4.
     pub fn new(number: u8) -> Result<SiteCount, Refusal>
-        ensures { count_of result ≡ checkedCount number }
+        ensures { count_of result ≡ checked_count number }
     {
         if number < 2 || number > 4 {
             return Err(Refusal::BadLayout);
@@ -26,7 +26,7 @@ impl SiteCount {
 
     // Whether a site is one of them, and not the given one.
     pub(crate) fn has_other(self, own: Site, site: u8) -> bool
-        ensures { result ≡ isOther own.number self.number site }
+        ensures { result ≡ is_other own.number self.number site }
     {
         site < self.number && site != own.number()
     }

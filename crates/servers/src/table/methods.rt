@@ -1,7 +1,7 @@
 // The methods of `VersionTable`.
 ghost use Rattle.std.specs.Prelude.{◌≡◌, []};
 ghost use Rattle.servers.specs.Versions.{plain};
-ghost use Rattle.servers.specs.Tables.{latest as latestOf, tableFull, kept1, tidying};
+ghost use Rattle.servers.specs.Tables.{latest as latest_of, table_full, kept1, tidying};
 ghost use Rattle.servers.specs.Held.{held, shown};
 ghost use Rattle.servers.specs.Laws.{IsLatest, IsTidied};
 
@@ -21,7 +21,7 @@ impl VersionTable {
     }
 
     pub(crate) fn is_full(&self) -> bool
-        ensures { result ≡ tableFull (held self.now) }
+        ensures { result ≡ table_full (held self.now) }
     {
         self.versions.len() >= super::MOST_VERSIONS
     }
@@ -49,7 +49,7 @@ impl VersionTable {
 
     // The latest version of a key that is shown.
     pub(crate) fn latest<S: Sight>(&self, key: u16, sight: &S) -> Option<Version>
-        ensures value { shown result ≡ latestOf (S.Sight.shows sight.now) key (held self.now) }
+        ensures value { shown result ≡ latest_of (S.Sight.shows sight.now) key (held self.now) }
         ensures law { IsLatest (S.Sight.shows sight.now) key (held self.now) (shown result) }
     {
         let versions = self.versions.as_slice();

@@ -2,7 +2,7 @@
 ghost use Rattle.std.specs.Prelude.{◌≡◌, not, map};
 ghost use Rattle.fixed_vec.specs.Items.{items};
 ghost use Rattle.servers.specs.Versions.{plain};
-ghost use Rattle.servers.specs.Tables.{outdated, outdatedBy};
+ghost use Rattle.servers.specs.Tables.{outdated, outdated_by};
 
 use super::MOST_VERSIONS;
 use crate::version::Version;
@@ -39,7 +39,7 @@ impl<K: MarkKind> Needed<K> {
 
     // Whether `other` is a later version of the item's key that the safe mark covers.
     fn replaces(&self, other: &Version, item: &Version) -> bool
-        ensures { result ≡ outdatedBy K.MarkKind.kind (K.MarkKind.meaning self.now.safe) (plain item.now) (plain other.now) }
+        ensures { result ≡ outdated_by K.MarkKind.kind (K.MarkKind.meaning self.now.safe) (plain item.now) (plain other.now) }
     {
         other.key == item.key
             && other.is_later(item)

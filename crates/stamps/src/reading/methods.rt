@@ -1,6 +1,6 @@
 // How a reading is made and read.
 ghost use Rattle.std.specs.Prelude.{◌≡◌};
-ghost use Rattle.stamps.specs.Checks.{readingNumber, checkedReading};
+ghost use Rattle.stamps.specs.Checks.{reading_number, checked_reading};
 
 use super::Reading;
 use crate::refusal::Refusal;
@@ -8,7 +8,7 @@ use crate::refusal::Refusal;
 impl Reading {
     // The reading of a plain number; refused from 2^47 on.
     pub fn new(time: u64) -> Result<Reading, Refusal>
-        ensures { readingNumber result ≡ checkedReading time }
+        ensures { reading_number result ≡ checked_reading time }
     {
         if time >= 1 << 47 {
             return Err(Refusal::Unlawful);

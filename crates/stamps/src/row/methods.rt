@@ -1,7 +1,7 @@
 // How rows are made, read, compared and combined.
 ghost use Rattle.std.specs.Prelude.{◌≡◌};
-ghost use Rattle.stamps.specs.Rows.{four, row_of, at, same, only, withEntry, covers, join, meet, greatest, least};
-ghost use Rattle.stamps.specs.Checks.{rowNumbers, checkedRow};
+ghost use Rattle.stamps.specs.Rows.{four, row_of, at, same, only, with_entry, covers, join, meet, greatest, least};
+ghost use Rattle.stamps.specs.Checks.{row_numbers, checked_row};
 
 use super::Row;
 use crate::refusal::Refusal;
@@ -11,7 +11,7 @@ use crate::stamp::Stamp;
 impl Row {
     // The row of four plain numbers; refused if one of them is no stamp.
     pub fn new(entries: [u64; 4]) -> Result<Row, Refusal>
-        ensures { rowNumbers result ≡ checkedRow entries }
+        ensures { row_numbers result ≡ checked_row entries }
     {
         let [a, b, c, d] = entries;
         if a >= 1 << 63 || b >= 1 << 63 || c >= 1 << 63 || d >= 1 << 63 {
@@ -65,7 +65,7 @@ impl Row {
 
     // The row with another stamp at one site.
     pub fn with_entry(&self, site: Site, stamp: Stamp) -> Row
-        ensures { four result.entries ≡ withEntry (four self.now.entries) site.number stamp.value }
+        ensures { four result.entries ≡ with_entry (four self.now.entries) site.number stamp.value }
     {
         let [a, b, c, d] = self.entries;
         let mut entries = [a, b, c, d];

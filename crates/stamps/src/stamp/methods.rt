@@ -1,7 +1,7 @@
 // How a stamp is made, taken apart and compared.
 ghost use Rattle.std.specs.Prelude.{◌≡◌, min, max};
-ghost use Rattle.stamps.specs.Stamps.{lastStamp, timeOf, count_of};
-ghost use Rattle.stamps.specs.Checks.{stampNumber, checkedStamp};
+ghost use Rattle.stamps.specs.Stamps.{last_stamp, time_of, count_of};
+ghost use Rattle.stamps.specs.Checks.{stamp_number, checked_stamp};
 
 use super::Stamp;
 use crate::refusal::Refusal;
@@ -9,7 +9,7 @@ use crate::refusal::Refusal;
 impl Stamp {
     // The stamp of a plain number; refused from 2^63 on.
     pub fn new(value: u64) -> Result<Stamp, Refusal>
-        ensures { stampNumber result ≡ checkedStamp value }
+        ensures { stamp_number result ≡ checked_stamp value }
     {
         if value >= 1 << 63 {
             return Err(Refusal::Unlawful);
@@ -26,7 +26,7 @@ impl Stamp {
 
     // The stamp above which there is none.
     pub fn last() -> Stamp
-        ensures { result.value ≡ lastStamp }
+        ensures { result.value ≡ last_stamp }
     {
         Stamp {
             value: (1 << 63) - 1,
@@ -40,7 +40,7 @@ impl Stamp {
     }
 
     pub fn time(self) -> u64
-        ensures { result ≡ timeOf self.value }
+        ensures { result ≡ time_of self.value }
     {
         self.value / 65_536
     }

@@ -6,14 +6,14 @@ use Rattle.std.proofs.lemmas.List.Elements.{All-cons, All-nil}
 use lib.Seq.{drop-drop}
 use Rattle.script.specs.Laws.{EachShort, ListingLaw}
 use Rattle.script.specs.Scripts.{lines_of, listing, view}
-use Rattle.script.proofs.Answered.{listing-law}
-use Rattle.script.proofs.Listing.{line-came, lines-begun, lines-none, lines-some, lines-turn, linesLeft, next-shorter, put-drop, put-take}
+use Rattle.script.proofs.Answered.{listing_law}
+use Rattle.script.proofs.Listing.{line_came, lines_begun, lines_none, lines_some, lines_turn, lines_left, next_shorter, put_drop, put_take}
 use Rattle.script.proofs.list.write_lines.Goals as goal
 
 -- at the beginning all lines are to come
 pub lines-init : goal.lines-init
 lines-init c =
-    let all = ap linesLeft c.new-script.ensures ∙ lines-begun c.args.bytes.now in
+    let all = ap lines_left c.new-script.ensures ∙ lines_begun c.args.bytes.now in
     record { written = refl; behind = refl; room = omega (arith, ap length all, c.requires); each = λ short. short; short = omega arith }
 
 -- bytes are left, so a line is to come, and there is room for it
@@ -22,7 +22,7 @@ write_next-end-requires c =
     let buffer = c.lines.buffer in
     let left = eqb-false (length c.lines.script.rest.now) 0 (sym c.lines-test.ensures) in
     let some : 0 < length c.lines.script.rest.now = omega arith in
-    let follows = lines-some (view c.lines.script) some in
+    let follows = lines_some (view c.lines.script) some in
     let part = ap length (take_rest buffer c.lines.end) ∙ length-drop c.lines.end buffer in
     (omega (arith, part, follows, c.lines.invariant.room), some)
 
@@ -31,8 +31,8 @@ lines-smaller c =
     let buffer = c.lines.buffer in
     let before = view c.lines.script in
     let after = view c.write_next-end.new.self in
-    let came = line-came before after c.write_next-end.result (take (length buffer - c.lines.end) (drop c.lines.end buffer)) c.write_next-end.new.buffer c.write_next-end.ensures.value in
-    next-shorter before after came.line came.comes
+    let came = line_came before after c.write_next-end.result (take (length buffer - c.lines.end) (drop c.lines.end buffer)) c.write_next-end.new.buffer c.write_next-end.ensures.value in
+    next_shorter before after came.line came.comes
 
 pub lines-preserved : goal.lines-preserved
 lines-preserved c =
@@ -44,54 +44,54 @@ lines-preserved c =
     let after = view c.write_next-end.new.self in
     let left = c.write_next-end.new.buffer in
     let within : end ≤ length buffer = omega (arith, c.lines.invariant.room) in
-    let came = line-came before after len (take k (drop end buffer)) left c.write_next-end.ensures.value in
-    let turn = lines-turn before after came.line came.comes in
-    let more = concat (linesLeft after) in
+    let came = line_came before after len (take k (drop end buffer)) left c.write_next-end.ensures.value in
+    let turn = lines_turn before after came.line came.comes in
+    let more = concat (lines_left after) in
     record {
       written =
-          ap (λ xs. xs ++ more) (put-take buffer came.line left end len k within refl came.long came.stands) ∙ append_assoc (take end buffer) came.line more
+          ap (λ xs. xs ++ more) (put_take buffer came.line left end len k within refl came.long came.stands) ∙ append_assoc (take end buffer) came.line more
           ∙ ap (λ xs. take end buffer ++ concat xs) (sym turn) ∙ c.lines.invariant.written;
       behind =
-          put-drop buffer came.line left end len k within refl came.long came.stands
+          put_drop buffer came.line left end len k within refl came.long came.stands
           ∙ sym (drop-drop len end buffer) ∙ ap (drop len) c.lines.invariant.behind ∙ drop-drop len end c.args.buffer.now;
       each = λ more-short.
-          let line-short : length came.line ≤ 96 = omega (arith, came.long, c.write_next-end.ensures.short) in
-          c.lines.invariant.each (subst EachShort (sym turn) (All-cons (λ line. length line ≤ 96) came.line (linesLeft after) line-short more-short));
+          let line_short : length came.line ≤ 96 = omega (arith, came.long, c.write_next-end.ensures.short) in
+          c.lines.invariant.each (subst EachShort (sym turn) (All-cons (λ line. length line ≤ 96) came.line (lines_left after) line_short more-short));
       room = omega (arith, ap length turn, c.lines.invariant.room, c.write_next-end.ensures.short);
       short = omega (arith, ap length turn, c.lines.invariant.short, c.write_next-end.ensures.short);
     }
 
 -- at the end no lines are to come, so what is written is the listing
-all-written : (c : goal.After-lines) → take c.lines.end c.lines.buffer ≡ listing c.args.bytes.now
-all-written c =
+all_written : (c : goal.After-lines) → take c.lines.end c.lines.buffer ≡ listing c.args.bytes.now
+all_written c =
     let front = take c.lines.end c.lines.buffer in
-    let none = lines-none (view c.lines.script) (eqb-true (length c.lines.script.rest.now) 0 (sym c.lines-test.ensures)) in
+    let none = lines_none (view c.lines.script) (eqb-true (length c.lines.script.rest.now) 0 (sym c.lines-test.ensures)) in
     sym (append-nil front) ∙ ap (λ xs. front ++ concat xs) (sym none) ∙ c.lines.invariant.written
-    ∙ ap concat (ap linesLeft c.new-script.ensures ∙ lines-begun c.args.bytes.now)
+    ∙ ap concat (ap lines_left c.new-script.ensures ∙ lines_begun c.args.bytes.now)
 
-length-written : (c : goal.After-lines) → c.lines.end ≡ length (listing c.args.bytes.now)
-length-written c = sym (length-take-le c.lines.end c.lines.buffer (omega (arith, c.lines.invariant.room))) ∙ ap length (all-written c)
+length_written : (c : goal.After-lines) → c.lines.end ≡ length (listing c.args.bytes.now)
+length_written c = sym (length-take-le c.lines.end c.lines.buffer (omega (arith, c.lines.invariant.room))) ∙ ap length (all_written c)
 
 pub returns-clause-len : goal.returns-clause-len
-returns-clause-len c = length-written c
+returns-clause-len c = length_written c
 
 pub returns-clause-text : goal.returns-clause-text
 returns-clause-text c =
     let text = listing c.args.bytes.now in
-    sym (take-append-drop c.lines.end c.lines.buffer) ∙ ap (λ xs. xs ++ drop c.lines.end c.lines.buffer) (all-written c)
-    ∙ ap (λ xs. text ++ xs) (c.lines.invariant.behind ∙ ap (λ n. drop n c.args.buffer.now) (length-written c))
+    sym (take-append-drop c.lines.end c.lines.buffer) ∙ ap (λ xs. xs ++ drop c.lines.end c.lines.buffer) (all_written c)
+    ∙ ap (λ xs. text ++ xs) (c.lines.invariant.behind ∙ ap (λ n. drop n c.args.buffer.now) (length_written c))
 
 pub returns-clause-short : goal.returns-clause-short
 returns-clause-short c =
-    let all = ap length (ap linesLeft c.new-script.ensures ∙ lines-begun c.args.bytes.now) in
+    let all = ap length (ap lines_left c.new-script.ensures ∙ lines_begun c.args.bytes.now) in
     omega (arith, all, c.lines.invariant.short)
 
 -- at the end no lines are to come that could be long
-each-short : (c : goal.After-lines) → EachShort (lines_of c.args.bytes.now)
-each-short c =
-    let none = lines-none (view c.lines.script) (eqb-true (length c.lines.script.rest.now) 0 (sym c.lines-test.ensures)) in
-    subst EachShort (ap linesLeft c.new-script.ensures ∙ lines-begun c.args.bytes.now) (c.lines.invariant.each (subst EachShort (sym none) (All-nil (λ line. length line ≤ 96))))
+each_short : (c : goal.After-lines) → EachShort (lines_of c.args.bytes.now)
+each_short c =
+    let none = lines_none (view c.lines.script) (eqb-true (length c.lines.script.rest.now) 0 (sym c.lines-test.ensures)) in
+    subst EachShort (ap lines_left c.new-script.ensures ∙ lines_begun c.args.bytes.now) (c.lines.invariant.each (subst EachShort (sym none) (All-nil (λ line. length line ≤ 96))))
 
 pub returns-clause-law : goal.returns-clause-law
 returns-clause-law c =
-    subst (ListingLaw c.args.bytes.now) (sym (all-written c)) (listing-law c.args.bytes.now (λ i. let byte = c.type_inv.bytes i in omega arith) (each-short c))
+    subst (ListingLaw c.args.bytes.now) (sym (all_written c)) (listing_law c.args.bytes.now (λ i. let byte = c.type_inv.bytes i in omega arith) (each_short c))

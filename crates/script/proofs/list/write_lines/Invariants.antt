@@ -2,7 +2,7 @@ use Rattle.std.proofs.Common.{◌≡◌, ◌+◌, ◌*◌, ◌≤◌, ◌++◌, 
 use Rattle.std.specs.List.{concat}
 use Rattle.script.specs.Laws.{EachShort}
 use Rattle.script.specs.Scripts.{view}
-use Rattle.script.proofs.Listing.{linesLeft}
+use Rattle.script.proofs.Listing.{lines_left}
 use Rattle.script.proofs.list.write_lines.Given as goal
 
 -- what is written, with the lines still to come, is the whole listing; what lies behind it is as it was, and there is
@@ -10,11 +10,11 @@ use Rattle.script.proofs.list.write_lines.Given as goal
 abbrev pub invariant-lines : goal.invariant-lines
 invariant-lines l =
     record {
-      written : take l.end l.buffer ++ concat (linesLeft (view l.script)) ≡ concat (linesLeft (view l.initial.script));
+      written : take l.end l.buffer ++ concat (lines_left (view l.script)) ≡ concat (lines_left (view l.initial.script));
       behind : drop l.end l.buffer ≡ drop l.end l.initial.buffer;
-      room : l.end + 96 * length (linesLeft (view l.script)) ≤ length l.buffer;
-      each : EachShort (linesLeft (view l.script)) → EachShort (linesLeft (view l.initial.script));
-      short : l.end + 96 * length (linesLeft (view l.script)) ≤ 96 * length (linesLeft (view l.initial.script));
+      room : l.end + 96 * length (lines_left (view l.script)) ≤ length l.buffer;
+      each : EachShort (lines_left (view l.script)) → EachShort (lines_left (view l.initial.script));
+      short : l.end + 96 * length (lines_left (view l.script)) ≤ 96 * length (lines_left (view l.initial.script));
     }
 
 abbrev pub decreases-lines : goal.decreases-lines

@@ -1,11 +1,11 @@
 use Rattle.std.proofs.Common.{Some, None, Ok, Option, sym, ap, ◌∙◌}
 use Rattle.servers.specs.Held.{shown}
-use Rattle.servers.specs.Servers.{view as serverView}
+use Rattle.servers.specs.Servers.{view as server_view}
 use Rattle.servers.specs.Versions.{plain}
 use Rattle.servers.specs.declared.version.Version.{Version}
 use Rattle.model.specs.Groups.{SessionState}
-use Rattle.model.specs.Calls.{showing, shownOf}
-use Rattle.group.specs.Answers.{shownState}
+use Rattle.model.specs.Calls.{showing, shown_of}
+use Rattle.group.specs.Answers.{shown_state}
 use Rattle.group.specs.Groups.{view}
 use Rattle.group.proofs.Sessions.{gets}
 use Rattle.group.proofs.group.Group.get.Goals as goal
@@ -17,7 +17,7 @@ returns-in_default g c =
     let p = c.partition_of-partition.result in
     record {
       step =
-          gets k (view c.args.self.now) mid mid c.args.session c.args.key p (serverView c.server.result.now) (shown c.latest_visible.result) (Ok None)
+          gets k (view c.args.self.now) mid mid c.args.session c.args.key p (server_view c.server.result.now) (shown c.latest_visible.result) (Ok None)
           (sym c.if-not-has_session.ensures) c.partition_of-partition.ensures.value c.learn.ensures
           (c.server.ensures ∙ ap (λ (x : SessionState). mid.server x.site p) c.session_at.ensures) c.latest_visible.ensures.value
           (ap (λ (o : Option Version). showing k mid c.args.session (shown o)) (sym c.in_default.is));
@@ -32,11 +32,11 @@ returns g c =
     let v = plain c.in-Some.version in
     record {
       step =
-          gets k (view c.args.self.now) mid (view c.depend.new.self) c.args.session c.args.key p (serverView c.server.result.now) (shown c.latest_visible.result)
-          (Ok (Some (shownState c.of.result)))
+          gets k (view c.args.self.now) mid (view c.depend.new.self) c.args.session c.args.key p (server_view c.server.result.now) (shown c.latest_visible.result)
+          (Ok (Some (shown_state c.of.result)))
           (sym c.if-not-has_session.ensures) c.partition_of-partition.ensures.value c.learn.ensures
           (c.server.ensures ∙ ap (λ (x : SessionState). mid.server x.site p) c.session_at.ensures) c.latest_visible.ensures.value
-          (ap (λ t. (Ok (Some t), view c.depend.new.self)) c.of.ensures ∙ ap (λ h. (Ok (Some (shownOf v)), h)) c.depend.ensures
+          (ap (λ t. (Ok (Some t), view c.depend.new.self)) c.of.ensures ∙ ap (λ h. (Ok (Some (shown_of v)), h)) c.depend.ensures
           ∙ ap (λ (o : Option Version). showing k mid c.args.session (shown o)) (sym c.in-Some.is));
       keeps = tt;
     }

@@ -1,19 +1,19 @@
 use Rattle.std.proofs.Common.{sym, refl, arith}
-use Rattle.stamps.specs.Checks.{stampNumber}
+use Rattle.stamps.specs.Checks.{stamp_number}
 use Rattle.servers.specs.Servers.{beaten}
 use Rattle.group.specs.Groups.{view}
-use Rattle.group.proofs.Views.{rest_of, on-server, on-server-keeps, keeps-number, keeps-stamp}
+use Rattle.group.proofs.Views.{rest_of, on_server_lem, on_server_keeps, keeps_number, keeps_stamp}
 use Rattle.group.proofs.group.Group.heartbeat.Goals as goal
 
 pub returns : goal.returns
 returns g c =
     let self = c.args.self.now in
     let step =
-    on-server self.layout (rest_of self) self.servers c.args.site c.args.partition c.place.result c.index-self-place.result c.heartbeat.new.self
-    (stampNumber c.heartbeat.result) (beaten g.C.ClockRule.answer) refl refl (omega arith) (sym c.if-not-has_server.ensures) c.place.ensures c.heartbeat.ensures.step
-    (keeps-number _ _ c.heartbeat.result c.heartbeat.ensures.keeps)
+    on_server_lem self.layout (rest_of self) self.servers c.args.site c.args.partition c.place.result c.index-self-place.result c.heartbeat.new.self
+    (stamp_number c.heartbeat.result) (beaten g.C.ClockRule.answer) refl refl (omega arith) (sym c.if-not-has_server.ensures) c.place.ensures c.heartbeat.ensures.step
+    (keeps_number _ _ c.heartbeat.result c.heartbeat.ensures.keeps)
     in
     record {
       step = step;
-      keeps = keeps-stamp _ _ c.heartbeat.result (on-server-keeps (view self) _ c.args.site c.args.partition (stampNumber c.heartbeat.result) (beaten g.C.ClockRule.answer) step);
+      keeps = keeps_stamp _ _ c.heartbeat.result (on_server_keeps (view self) _ c.args.site c.args.partition (stamp_number c.heartbeat.result) (beaten g.C.ClockRule.answer) step);
     }

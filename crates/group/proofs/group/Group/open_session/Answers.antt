@@ -1,7 +1,7 @@
 use Rattle.std.proofs.Common.{refl, ap, ◌∙◌, arith}
 use Rattle.std.proofs.lemmas.Bool.{lt-ltb}
 use Rattle.fixed_vec.specs.Items.{items}
-use Rattle.model.specs.Groups.{newSession}
+use Rattle.model.specs.Groups.{new_session}
 use Rattle.group.specs.Groups.{view}
 use Rattle.group.proofs.Opening.{opened}
 use Rattle.group.proofs.group.Group.open_session.Goals as goal
@@ -12,7 +12,7 @@ returns-in-Ok g c =
     record {
       step =
           opened (view self) (items self.sessions) (items c.push.new.self) c.new.result c.args.site c.len-number.result c.push.result
-          c.push.ensures c.in-Ok.is refl c.len-number.ensures (c.new.ensures ∙ ap newSession c.site_of.ensures)
+          c.push.ensures c.in-Ok.is refl c.len-number.ensures (c.new.ensures ∙ ap new_session c.site_of.ensures)
           (lt-ltb c.args.site self.layout.sites.number (omega arith));
       keeps = tt;
     }

@@ -4,7 +4,7 @@ use Rattle.stamps.specs.Rows.{four}
 use Rattle.servers.specs.Servers.{ServerState}
 use Rattle.model.specs.Groups.{SessionState}
 use Rattle.group.specs.Groups.{view}
-use Rattle.group.proofs.Sessions.{seats-it}
+use Rattle.group.proofs.Sessions.{seats_it}
 use Rattle.group.proofs.group.Group.open_snapshot.Goals as goal
 
 pub returns : goal.returns
@@ -14,7 +14,7 @@ returns g c =
     let p = c.args.partition in
     record {
       step =
-          seats-it g.K.MarkKind.kind before mid (view c.take_seat.new.self) c.args.session p c.lowest_free-number.result (four c.stable-cut.result.entries)
+          seats_it g.K.MarkKind.kind before mid (view c.take_seat.new.self) c.args.session p c.lowest_free-number.result (four c.stable-cut.result.entries)
           c.take_seat.result.seat c.take_seat.result.serial
           (lt-ltb p before.partitions (omega arith)) (sym c.if-not-has_session.ensures) c.lowest_free-number.ensures (omega arith) (omega arith)
           c.learn.ensures

@@ -1,8 +1,8 @@
 use Rattle.std.proofs.Common.{codes, sym, ap, ◌∙◌, arith}
 use Rattle.std.proofs.lemmas.Fmt.{length-decimal-le}
 use Rattle.std.proofs.lemmas.List.{length-append}
-use Rattle.group.specs.Answers.{shownNumbers}
-use Rattle.script.specs.Answers.{printed, readText, said}
+use Rattle.group.specs.Answers.{shown_numbers}
+use Rattle.script.specs.Answers.{printed, read_text, said}
 use Rattle.script.specs.Lines.{text_of, onto}
 use Rattle.script.proofs.Lengths.{joined}
 use Rattle.script.proofs.line.Line.answer.Goals as goal
@@ -17,8 +17,8 @@ returns-in-Count c =
 -- what the two reads answer, joined by " / "
 pub returns-in-Both : goal.returns-in-Both
 returns-in-Both c =
-    let first = readText (shownNumbers c.in-Both.first) in
-    let second = readText (shownNumbers c.in-Both.second) in
+    let first = read_text (shown_numbers c.in-Both.first) in
+    let second = read_text (shown_numbers c.in-Both.second) in
     record {
       text =
           joined (text_of c.args.self.now) first _ c.read.ensures.text

@@ -1,10 +1,10 @@
 use Rattle.std.proofs.Common.{ap, ◌∙◌, arith}
 use Rattle.script.specs.Answers.{Said}
 use Rattle.script.specs.Scripts.{ScriptState, view}
-use Rattle.script.proofs.Stepping.{stepped-lines}
+use Rattle.script.proofs.Stepping.{stepped_lines}
 use Rattle.script.proofs.script.Script.write_next.Goals as goal
 
 pub invariant_of-self : goal.invariant_of-self
 invariant_of-self c =
-    let same = ap (λ (o : Said × ScriptState). o.1.lines) c.step-answer.ensures.step ∙ stepped-lines (view c.args.self.now) in
+    let same = ap (λ (o : Said × ScriptState). o.1.lines) c.step-answer.ensures.step ∙ stepped_lines (view c.args.self.now) in
     record { few = omega arith }

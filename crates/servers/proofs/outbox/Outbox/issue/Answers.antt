@@ -8,15 +8,15 @@ use Rattle.stamps.specs.Rows.{greatest}
 use Rattle.servers.specs.Counting.{counts}
 use Rattle.servers.specs.Entries.{sent}
 use Rattle.servers.specs.Lefts.{OthersOnly}
-use Rattle.servers.specs.Outboxes.{issued, lastFor, outboxFull, waiting}
+use Rattle.servers.specs.Outboxes.{issued, last_for, outbox_full, waiting}
 use Rattle.servers.specs.declared.entry.Entry.{Entry}
 use Rattle.servers.specs.declared.outbox.Outbox.{Outbox}
-use Rattle.servers.proofs.Queues.{issue-queues, issue-counts, full_is}
+use Rattle.servers.proofs.Queues.{issue_queues, issue_counts, full_is}
 use Rattle.servers.proofs.outbox.Outbox.issue.Goals as goal
 
 -- there is room, so the entry stands at the end
 appended : (o : Outbox) (entry : Entry) (r : Result (Unit {0}) Full) (after : FixedVec Entry 16)
-    → false ≡ outboxFull o.own.number o.sites.number (waiting o) → (r, items after) ≡ pushed 16 (items o.entries) entry
+    → false ≡ outbox_full o.own.number o.sites.number (waiting o) → (r, items after) ≡ pushed 16 (items o.entries) entry
     → items after ≡ items o.entries ++ entry ∷ []
 appended o entry r after room push =
     let es = items o.entries in
@@ -29,9 +29,9 @@ pub invariant_of-self : goal.invariant_of-self
 invariant_of-self c =
     let o = c.args.self.now in
     let n = length (items o.entries) in
-    let after = issue-counts o.own.number o.sites.number (counts o.left) n (omega arith) o.others o.needed in
-    let items-are = appended o c.args.entry c.push.result c.push.new.self c.if-is_full.ensures c.push.ensures in
-    let long = ap length items-are ∙ length-append (items o.entries) (c.args.entry ∷ []) in
+    let after = issue_counts o.own.number o.sites.number (counts o.left) n (omega arith) o.others o.needed in
+    let items_are = appended o c.args.entry c.push.result c.push.new.self c.if-is_full.ensures c.push.ensures in
+    let long = ap length items_are ∙ length-append (items o.entries) (c.args.entry ∷ []) in
     record {
       others = subst (OthersOnly o.own.number o.sites.number) (sym c.one_more-self.ensures) after.0;
       needed = ap greatest c.one_more-self.ensures ∙ after.1 ∙ sym long;
@@ -41,18 +41,18 @@ pub returns : goal.returns
 returns c =
     let o = c.args.self.now in
     let es = items o.entries in
-    let items-are = appended o c.args.entry c.push.result c.push.new.self c.if-is_full.ensures c.push.ensures in
+    let items_are = appended o c.args.entry c.push.result c.push.new.self c.if-is_full.ensures c.push.ensures in
     let own = o.own.number in
     let sites = o.sites.number in
     let left = counts o.left in
     let e = sent c.args.entry in
     record {
       queues =
-          ap (λ xs. lastFor (map sent xs) (counts c.one_more-self.result)) items-are
-          ∙ ap (λ ys. lastFor ys (counts c.one_more-self.result)) (map-append sent es (c.args.entry ∷ []))
-          ∙ ap (lastFor (map sent es ++ e ∷ [])) c.one_more-self.ensures
-          ∙ issue-queues own sites (map sent es) e left (omega arith) o.others (o.needed ∙ sym (length-map es sent))
-          ∙ sym (cond-false (outboxFull own sites (waiting o)) (waiting o) (issued own sites (waiting o) e) (sym c.if-is_full.ensures));
+          ap (λ xs. last_for (map sent xs) (counts c.one_more-self.result)) items_are
+          ∙ ap (λ ys. last_for ys (counts c.one_more-self.result)) (map-append sent es (c.args.entry ∷ []))
+          ∙ ap (last_for (map sent es ++ e ∷ [])) c.one_more-self.ensures
+          ∙ issue_queues own sites (map sent es) e left (omega arith) o.others (o.needed ∙ sym (length-map es sent))
+          ∙ sym (cond-false (outbox_full own sites (waiting o)) (waiting o) (issued own sites (waiting o) e) (sym c.if-is_full.ensures));
       own = refl;
       sites = refl;
     }

@@ -1,6 +1,6 @@
 use Rattle.std.proofs.Common.{refl, arith, rules}
-use Rattle.servers.proofs.Traffic.{queue-law}
+use Rattle.servers.proofs.Traffic.{queue_law}
 use Rattle.servers.proofs.outbox.Outbox.new.Goals as goal
 
 pub returns : goal.returns
-returns c = record { empty = search rules; law = queue-law c.args.own.number c.args.sites.number (omega arith); own = refl; sites = refl }
+returns c = record { empty = search rules; law = queue_law c.args.own.number c.args.sites.number (omega arith); own = refl; sites = refl }

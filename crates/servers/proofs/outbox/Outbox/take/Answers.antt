@@ -5,15 +5,15 @@ use Rattle.stamps.specs.Rows.{greatest}
 use Rattle.servers.specs.Counting.{counts}
 use Rattle.servers.specs.Entries.{sent}
 use Rattle.servers.specs.Lefts.{OthersOnly}
-use Rattle.servers.specs.Outboxes.{lastFor}
-use Rattle.servers.proofs.Queues.{fewer-counts, kept-queues, take-queues}
+use Rattle.servers.specs.Outboxes.{last_for}
+use Rattle.servers.proofs.Queues.{fewer_counts, kept_queues, take_queues}
 use Rattle.servers.proofs.outbox.Outbox.take.Goals as goal
 
 pub invariant_of-self : goal.invariant_of-self
 invariant_of-self c =
     let o = c.args.self.now in
     let es = items o.entries in
-    let after = fewer-counts o.own.number o.sites.number c.args.site.number (counts o.left) (length es) (omega arith) o.others o.needed in
+    let after = fewer_counts o.own.number o.sites.number c.args.site.number (counts o.left) (length es) (omega arith) o.others o.needed in
     let left = c.one_less-left.ensures in
     let most = ap greatest left in
     let kept = ap length c.keep_last.ensures ∙ length-drop (length es - c.greatest.result) es in
@@ -27,17 +27,17 @@ returns c =
     let o = c.args.self.now in
     let es = items o.entries in
     let left = counts c.one_less-left.result in
-    let after = fewer-counts o.own.number o.sites.number c.args.site.number (counts o.left) (length es) (omega arith) o.others o.needed in
+    let after = fewer_counts o.own.number o.sites.number c.args.site.number (counts o.left) (length es) (omega arith) o.others o.needed in
     let long = length-map es sent in
     let few : greatest left ≤ length (map sent es) = omega (arith, ap greatest c.one_less-left.ensures, after.1) in
     let count : length es - c.greatest.result ≡ length (map sent es) - greatest left = omega (arith, c.greatest.ensures) in
     record {
       queues =
-          ap (λ xs. lastFor (map sent xs) left) (c.keep_last.ensures ∙ ap (λ n. drop n es) count)
-          ∙ ap (λ ys. lastFor ys left) (sym (drop-map sent (length (map sent es) - greatest left) es))
-          ∙ kept-queues (map sent es) left few
-          ∙ ap (lastFor (map sent es)) c.one_less-left.ensures
-          ∙ take-queues c.args.site.number (map sent es) (counts o.left) (omega arith) (o.needed ∙ sym long);
+          ap (λ xs. last_for (map sent xs) left) (c.keep_last.ensures ∙ ap (λ n. drop n es) count)
+          ∙ ap (λ ys. last_for ys left) (sym (drop-map sent (length (map sent es) - greatest left) es))
+          ∙ kept_queues (map sent es) left few
+          ∙ ap (last_for (map sent es)) c.one_less-left.ensures
+          ∙ take_queues c.args.site.number (map sent es) (counts o.left) (omega arith) (o.needed ∙ sym long);
       own = refl;
       sites = refl;
     }

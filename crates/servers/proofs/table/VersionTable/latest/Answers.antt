@@ -5,8 +5,8 @@ use Rattle.servers.specs.Held.{held}
 use Rattle.servers.specs.Laws.{IsLatest}
 use Rattle.servers.specs.Versions.{VersionState, plain}
 use Rattle.servers.specs.Tables.{better, latest}
-use Rattle.servers.proofs.Latest.{latest-law}
-use Rattle.servers.proofs.Seeking.{nothing, seek-all, seek-more, standing, stands, within}
+use Rattle.servers.proofs.Latest.{latest_law}
+use Rattle.servers.proofs.Seeking.{nothing, seek_all, seek_more, standing, stands, within}
 use Rattle.servers.proofs.table.VersionTable.latest.Goals as goal
 use Rattle.servers.proofs.table.VersionTable.latest.Goals.{then-version-key+then-shows+in-None, then-version-key+then-shows+in-Some+then-is_later, then-version-key+then-shows+in-Some+else-is_later, else-version-key, else-version-key-via-then-version-key+else-shows, else-version-key-via-else-version-key}
 
@@ -38,18 +38,18 @@ loop-i-preserved g c =
     let vs = map plain c.as_slice-versions.result.now in
     let t = turn g c in
     let lt : c.loop-i.i < length vs = simp length-map c.loop-i-test.true in
-    (t.0, seek-more (g.S.Sight.shows c.args.sight.now) c.args.key nothing vs c.loop-i.i c.loop-i.found c.if-version-key.found lt t.1 c.loop-i.invariant.1)
+    (t.0, seek_more (g.S.Sight.shows c.args.sight.now) c.args.key nothing vs c.loop-i.i c.loop-i.found c.if-version-key.found lt t.1 c.loop-i.invariant.1)
 
 -- the answer is the latest, so it has what the law says
 lawful : (shows : VersionState → Bool) (key : ℕ) (vs : List VersionState) (r : Option VersionState) → r ≡ latest shows key vs → IsLatest shows key vs r
-lawful shows key vs r e = subst (IsLatest shows key vs) (sym e) (latest-law shows key vs)
+lawful shows key vs r e = subst (IsLatest shows key vs) (sym e) (latest_law shows key vs)
 
 pub returns-in_default : goal.returns-in_default
 returns-in_default g c =
     let vs = map plain c.as_slice-versions.result.now in
     let shows = g.S.Sight.shows c.args.sight.now in
     let le : length vs ≤ c.loop-i.i = simp length-map c.loop-i-test.false in
-    let is = ap (standing nothing vs) (sym c.in_default.is) ∙ seek-all shows c.args.key nothing vs c.loop-i.i c.loop-i.found le c.loop-i.invariant.1 ∙ ap (λ xs. latest shows c.args.key (map plain xs)) c.as_slice-versions.ensures in
+    let is = ap (standing nothing vs) (sym c.in_default.is) ∙ seek_all shows c.args.key nothing vs c.loop-i.i c.loop-i.found le c.loop-i.invariant.1 ∙ ap (λ xs. latest shows c.args.key (map plain xs)) c.as_slice-versions.ensures in
     record { value = is; law = lawful shows c.args.key (held c.args.self.now) None is }
 
 pub returns : goal.returns
@@ -61,5 +61,5 @@ returns g c =
     let inside = subst (λ o. within o (length xs)) c.in-Some-found.is c.loop-i.invariant.0 in
     let is =
     stands xs c.in-Some-found.index c.index-versions-index.result c.index-versions-index.is inside ∙ ap (standing nothing vs) (sym c.in-Some-found.is)
-    ∙ seek-all shows c.args.key nothing vs c.loop-i.i c.loop-i.found le c.loop-i.invariant.1 ∙ ap (λ ys. latest shows c.args.key (map plain ys)) c.as_slice-versions.ensures in
+    ∙ seek_all shows c.args.key nothing vs c.loop-i.i c.loop-i.found le c.loop-i.invariant.1 ∙ ap (λ ys. latest shows c.args.key (map plain ys)) c.as_slice-versions.ensures in
     record { value = is; law = lawful shows c.args.key (held c.args.self.now) (Some (plain c.index-versions-index.result)) is }

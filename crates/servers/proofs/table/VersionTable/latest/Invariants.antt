@@ -1,6 +1,6 @@
 use Rattle.std.proofs.Common.{◌≡◌, map, length, drop}
 use Rattle.servers.specs.Versions.{plain}
-use Rattle.servers.specs.Tables.{latest, latestFrom}
+use Rattle.servers.specs.Tables.{latest, latest_from}
 use Rattle.servers.proofs.Seeking.{standing, within, nothing}
 use Rattle.servers.proofs.table.VersionTable.latest.Given as goal
 
@@ -10,4 +10,4 @@ invariant-loop-i g l =
     let shows = g.S.Sight.shows l.sight in
     let vs = map plain l.versions in
     within l.found (length l.versions)
-    × (latestFrom shows l.key (standing nothing vs l.found) (drop l.i vs) ≡ latest shows l.key vs)
+    × (latest_from shows l.key (standing nothing vs l.found) (drop l.i vs) ≡ latest shows l.key vs)
