@@ -114,14 +114,16 @@ def together(own, new):
 
 
 def turned(text, path, new, fields):
-    """The text with its new names. A name after a dot is a field of a record, or what Rattle calls a part of a body."""
+    """The text with its new names. A name after a dot is a field, a name of a module, or what Rattle calls a part of a body."""
+    modules = tuple(alias + "." for alias in ALIAS.findall(text))
+
+    def is_own(found):
+        name, before = found.group(1), text[: found.start()]
+        return "-" not in name or not before.endswith(".") or name in fields or before.endswith(modules)
 
     def word(found):
         name = found.group(1)
-        after_dot = text[max(found.start() - 1, 0)] == "."
-        if name not in new or after_dot and "-" in name and name not in fields:
-            return name
-        return new[name]
+        return new[name] if name in new and is_own(found) else name
 
     if path.endswith(".rt"):
         strings = [found.span() for found in STRING.finditer(text)]

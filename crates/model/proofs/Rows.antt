@@ -11,7 +11,7 @@ pub covers_self : (x : Four) → Covers x x
 covers_self x = (le_refl _, le_refl _, le_refl _, le_refl _)
 
 pub covers_trans : {x y z : Four} → Covers x y → Covers y z → Covers x z
-covers_trans {x} {y} {z} p q = rows.covers-trans x y z p q
+covers_trans {x} {y} {z} p q = rows.covers_trans x y z p q
 
 pub covers_true : (x y : Four) → covers x y ≡ true → Covers x y
 covers_true x y e =
