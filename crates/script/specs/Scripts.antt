@@ -1,5 +1,5 @@
 -- A script, command by command, and its listing.
-use Rattle.std.specs.Prelude.{ℕ, zero, suc, ◌+◌, ◌*◌, ◌≤◌, cond, List, [], ◌∷◌, ◌++◌, length, take, drop, Some, None, Ok, Err, Option, Result, nat_lt}
+use Rattle.std.specs.Prelude.{ℕ, zero, suc, ◌+◌, ◌*◌, ◌≤◌, cond, List, [], ◌∷◌, ◌++◌, length, take, drop, Some, None, Ok, Err, Option, Result, ◌==◌, nat_lt}
 use Rattle.std.specs.List.{concat}
 use Rattle.stamps.specs.declared.refusal.Refusal.{Refusal}
 use Rattle.stamps.specs.declared.refusal.Refusal.TheVariants.{ShortBuffer}
@@ -57,9 +57,13 @@ abbrev pub written : ScriptState → List ℕ → Option (List ℕ × ScriptStat
 written s buffer None = (Ok None, s, buffer)
 written s buffer (Some (line, after)) = (Ok (Some (length line)), after, line ++ drop (length line) buffer)
 
--- a buffer under 96 bytes is refused before anything is done
-abbrev pub line_into : ScriptState → List ℕ → Result (Option ℕ) Refusal × ScriptState × List ℕ
-line_into s buffer = cond (nat_lt (length buffer) 96) (Err ShortBuffer, s, buffer) (written s buffer (next s))
+-- the first line, if none was listed before
+abbrev pub first : ScriptState → Option (List ℕ × ScriptState)
+first s = cond (s.lines == 0) (next s) None
+
+-- a line into a buffer; one under 96 bytes is refused before anything is done
+abbrev pub line_into : (ScriptState → Option (List ℕ × ScriptState)) → ScriptState → List ℕ → Result (Option ℕ) Refusal × ScriptState × List ℕ
+line_into line s buffer = cond (nat_lt (length buffer) 96) (Err ShortBuffer, s, buffer) (written s buffer (line s))
 
 -- the length of a line, if there is one
 abbrev pub AtMost96 : Option ℕ → Type 0

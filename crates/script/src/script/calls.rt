@@ -1,7 +1,7 @@
 // The making of a script, and its next line.
 ghost use Rattle.std.specs.Prelude.{◌≡◌, ◌<◌, ◌≤◌, length, ◌==◌, IfOk, Ok as Listed, Some as Line};
 ghost use Rattle.script.specs.Answers.{said};
-ghost use Rattle.script.specs.Scripts.{view, begun, stepped, ended_by, next, written, line_into, AtMost96};
+ghost use Rattle.script.specs.Scripts.{view, begun, stepped, ended_by, next, first, written, line_into, AtMost96};
 
 use super::Script;
 use crate::answer::Answer;
@@ -38,7 +38,7 @@ impl<'a> Script<'a> {
     // Performs the next command and writes its line to the start of the buffer: the line's length, or none if the
     // script has ended.
     pub fn next_line(&mut self, buffer: &mut [u8]) -> Result<Option<usize>, Refusal>
-        ensures value { (result, view self.new, buffer.new) ≡ line_into (view self.old) buffer.old }
+        ensures value { (result, view self.new, buffer.new) ≡ line_into next (view self.old) buffer.old }
         ensures short { IfOk result AtMost96 }
     {
         if buffer.len() < MOST_BYTES {
@@ -48,6 +48,17 @@ impl<'a> Script<'a> {
             return Ok(None);
         }
         Ok(Some(self.write_next(buffer)))
+    }
+
+    // The first line in the same way: none if a line was listed before.
+    pub fn first_line(&mut self, buffer: &mut [u8]) -> Result<Option<usize>, Refusal>
+        ensures value { (result, view self.new, buffer.new) ≡ line_into first (view self.old) buffer.old }
+        ensures short { IfOk result AtMost96 }
+    {
+        if self.lines == 0 || buffer.len() < MOST_BYTES {
+            return self.next_line(buffer);
+        }
+        Ok(None)
     }
 
     pub(crate) fn has_ended(&self) -> bool
