@@ -3,11 +3,10 @@
 
 usage: python3 tools/snake_case.py [FOLDER]    FOLDER is a checkout, and this one without a word
 
-It reads what specs/ and proofs/ declare and import under names of their own, and rewrites each such name with a capital or a dash
-in it: in .antt files, in the
-clauses of .rt files, in must-fail edits and in the pages. Types, modules, functions of src/, names that Rattle makes (goals, the
-calls and cases of a body), strings, inputs and outputs keep their names. It writes nothing where two names would fall together.
-Run `rt fmt` in each crate after it.
+It reads what specs/ and proofs/ declare and import under names of their own, and rewrites each such name with a capital or a
+dash in it: in .antt files, in the clauses of .rt files, in must-fail edits and in the pages. Types, modules, functions of src/,
+names that Rattle makes (goals, the calls and cases of a body), strings, inputs and outputs keep their names. It writes nothing
+where two names would fall together. Run `rt fmt` in each crate after it.
 """
 
 import os
@@ -15,7 +14,7 @@ import re
 import sys
 
 NAME = r"[a-z][\w']*(?:-[\w']+)*"
-DECLARED = re.compile(rf"^(\s*)(?:(?:abbrev|pub) )*({NAME}(?: {NAME})*) :(?: (.*))?$")
+DECLARED = re.compile(rf"^\s*(?:(?:abbrev|pub) )*({NAME}(?: {NAME})*) :(?: (.*))?$")
 ALIAS = re.compile(rf"\bas ({NAME})(?=[,}};\n])")
 PARAMETERS = re.compile(rf"[({{]({NAME}(?: {NAME})*) : ")
 EQUATION = re.compile(rf"^\s*{NAME}((?: {NAME})+) =")
@@ -64,14 +63,14 @@ def declarations(root):
             found = DECLARED.match(line)
             if not found:
                 continue
-            names = found.group(2).split()
-            if in_function_folder(path) and (found.group(3) or "").startswith("goal."):
+            names = found.group(1).split()
+            if in_function_folder(path) and (found.group(2) or "").startswith("goal."):
                 made.update(names)
                 continue
             own.update(names)
             if in_record:
                 fields.update(names)
-    return own, fields, made - own
+    return own, fields, made
 
 
 def bound(root):

@@ -16,7 +16,7 @@ use stamps::raw::Raw;
 use stamps::refusal::Refusal;
 
 #[derive(Drop)]
-pub(crate) enum AnyGroup {
+pub enum AnyGroup {
     // No group was made.
     Unmade,
     RawOne(Group<Raw, One>),
