@@ -17,7 +17,7 @@ use Rattle.script.specs.Laws.{EachShort, IsScript, ListingLaw, answers, answers_
 use Rattle.script.specs.Lines.{line_of}
 use Rattle.script.specs.Scripts.{ScriptState, begun, ended_by, lines_of, listing, numbered, stepped, stepped_by, stepped_to}
 use Rattle.script.specs.Stores.{Store, obeyed}
-use Rattle.script.proofs.Listing.{lines_left, lines_begun, lines_none, lines_turn}
+use Rattle.script.proofs.LinesLeft.{lines_left, lines_begun, lines_none, lines_turn}
 use Rattle.script.proofs.Stepping.{next_is, read_obeyed}
 
 -- a command is written in at least one byte

@@ -1,6 +1,7 @@
 pub mod Counts
 pub mod Answered
 pub mod Lengths
-pub mod Listing
+pub mod LinesLeft
+pub mod ListingSteps
 pub mod Stepping
 pub mod Viewing

@@ -2,6 +2,7 @@ pub mod Answers
 pub mod Steps
 pub mod Stores
 pub mod Lines
+pub mod Listings
 pub mod Scripts
 pub mod Counting
 pub mod Kept

@@ -53,7 +53,7 @@ abbrev pub next : ScriptState → Option (List ℕ × ScriptState)
 next s = next_at s s.rest
 
 -- a line goes to the start of a buffer, and the bytes past it stay; with no line nothing changes
-abbrev pub written : ScriptState → List ℕ → Option (List ℕ × ScriptState) → Result (Option ℕ) Refusal × ScriptState × List ℕ
+abbrev pub written : {S : Type 0} → S → List ℕ → Option (List ℕ × S) → Result (Option ℕ) Refusal × S × List ℕ
 written s buffer None = (Ok None, s, buffer)
 written s buffer (Some (line, after)) = (Ok (Some (length line)), after, line ++ drop (length line) buffer)
 
@@ -62,7 +62,7 @@ abbrev pub first : ScriptState → Option (List ℕ × ScriptState)
 first s = cond (s.lines == 0) (next s) None
 
 -- a line into a buffer; one under 96 bytes is refused before anything is done
-abbrev pub line_into : (ScriptState → Option (List ℕ × ScriptState)) → ScriptState → List ℕ → Result (Option ℕ) Refusal × ScriptState × List ℕ
+abbrev pub line_into : {S : Type 0} → (S → Option (List ℕ × S)) → S → List ℕ → Result (Option ℕ) Refusal × S × List ℕ
 line_into line s buffer = cond (nat_lt (length buffer) 96) (Err ShortBuffer, s, buffer) (written s buffer (line s))
 
 -- the length of a line, if there is one

@@ -5,6 +5,7 @@ pub mod answer;
 pub mod any_group;
 pub mod line;
 pub mod list;
+pub mod listing;
 pub mod perform;
 pub mod script;
 pub mod worked_case;

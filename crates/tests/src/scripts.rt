@@ -1,6 +1,11 @@
 // Lines as they are listed, and the buffers that they go into.
+use group::group::Group;
+use group::layout::Draft;
+use marks::each::Each;
 use script::list::{list, list_into};
+use script::listing::Listing;
 use script::script::Script;
+use stamps::hybrid::Hybrid;
 use stamps::refusal::Refusal;
 use std::alloc::Global;
 use std::process::Abort;
@@ -71,17 +76,22 @@ fn no_bytes_have_no_line(rt: HostRuntime) {
 }
 
 #[test]
-fn a_next_line_needs_96_bytes(rt: HostRuntime) {
-    let mut script = Script::new(b"L\x02\x01HEQ\0\0");
-    assert_eq!(rt; script.first_line(&mut [7; 96]), Ok(Some(7)));
+fn a_next_line_needs_96_bytes(rt: HostRuntime) -> Result<(), Fail> {
+    let layout = Draft {
+        sites: 2,
+        partitions: 1,
+    }
+    .check()?;
+    let mut listing = Listing::<Hybrid, Each>::new(Group::new(layout), b"Q\0\0");
     let mut short = [7; 95];
-    assert_eq!(rt; script.next_line(&mut short), Err(Refusal::ShortBuffer));
+    assert_eq!(rt; listing.next_line(&mut short), Err(Refusal::ShortBuffer));
     assert_eq!(rt; short, [7; 95]);
     let mut buffer = [7; 96];
-    assert_eq!(rt; script.next_line(&mut buffer), Ok(Some(6)));
+    assert_eq!(rt; listing.next_line(&mut buffer), Ok(Some(6)));
     assert_eq!(rt; &buffer[0..6], b"2 Q 0\n".as_slice());
     assert_eq!(rt; &buffer[6..96], [7; 90].as_slice());
-    assert_eq!(rt; script.next_line(&mut buffer), Ok(None));
+    assert_eq!(rt; listing.next_line(&mut buffer), Ok(None));
+    Ok(())
 }
 
 #[test]

@@ -7,7 +7,7 @@ use lib.Seq.{drop-drop}
 use Rattle.script.specs.Laws.{EachShort, ListingLaw}
 use Rattle.script.specs.Scripts.{lines_of, listing, view}
 use Rattle.script.proofs.Answered.{listing_law}
-use Rattle.script.proofs.Listing.{line_came, lines_begun, lines_none, lines_some, lines_turn, lines_left, next_shorter, put_drop, put_take}
+use Rattle.script.proofs.LinesLeft.{line_came, lines_begun, lines_none, lines_some, lines_turn, lines_left, next_shorter, put_drop, put_take}
 use Rattle.script.proofs.list.write_lines.Goals as goal
 
 -- at the beginning all lines are to come

@@ -2,7 +2,7 @@ use Rattle.std.proofs.Common.{◌≡◌, ◌+◌, ◌*◌, ◌≤◌, ◌++◌, 
 use Rattle.std.specs.List.{concat}
 use Rattle.script.specs.Laws.{EachShort}
 use Rattle.script.specs.Scripts.{view}
-use Rattle.script.proofs.Listing.{lines_left}
+use Rattle.script.proofs.LinesLeft.{lines_left}
 use Rattle.script.proofs.list.write_lines.Given as goal
 
 -- what is written, with the lines still to come, is the whole listing; what lies behind it is as it was, and there is
