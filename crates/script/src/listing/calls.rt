@@ -56,7 +56,7 @@ impl<'a, C: ClockRule, K: MarkKind> Listing<'a, C, K> {
     }
 
     // The next line, where there is one and the buffer is long enough.
-    fn write_next(&mut self, buffer: &mut [u8]) -> usize
+    pub(crate) fn write_next(&mut self, buffer: &mut [u8]) -> usize
         requires { (96 ≤ length buffer.old) × (0 < length self.old.rest.now) }
         ensures value { (Listed (Line result), view self.new, buffer.new) ≡ written (view self.old) buffer.old (next C.ClockRule.answer K.MarkKind.kind (view self.old)) }
         ensures short { result ≤ 96 }
