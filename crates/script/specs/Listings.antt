@@ -17,10 +17,11 @@ use Rattle.script.specs.Steps.{performed}
 pub record ListingState : Type 0 where
   -- what is left of the script
   pub rest : List ℕ
-  -- how many lines there were
+  -- how many lines there were, with that of its layout
   pub lines : ℕ
   pub group : GroupState
 
+-- a listing is named with its clock rule and kind of mark, which the view does not use
 abbrev pub view : {C K Mark : Type 0} {rule : clock_rule.ClockRule.Ghosts C} {kind : mark_kind.MarkKind.Ghosts K Mark} → Listing C K Mark rule kind → ListingState
 view l = record { rest = l.rest.now; lines = l.lines; group = group.view l.group }
 

@@ -5,7 +5,7 @@ use group::group::Group;
 use marks::mark_kind::MarkKind;
 use stamps::clock_rule::ClockRule;
 
-// What is left of the script, how many lines there were, and the group.
+// What is left of the script, how many lines there were with that of its layout, and the group.
 #[derive(Drop)]
 pub struct Listing<'a, C: ClockRule, K: MarkKind> {
     rest: &'a [u8],

@@ -1,5 +1,5 @@
 // The making of a listing over a group, and its next line.
-ghost use Rattle.std.specs.Prelude.{◌≡◌, ◌<◌, ◌≤◌, length, ◌==◌, take, IfOk, Ok as Listed, Some as Line};
+ghost use Rattle.std.specs.Prelude.{◌≡◌, ◌<◌, ◌≤◌, length, take, IfOk, Ok as Listed, Some as Line};
 ghost use Rattle.script.specs.Answers.{said};
 ghost use Rattle.script.specs.Scripts.{written, line_into, AtMost96};
 ghost use Rattle.script.specs.Listings.{view, after_layout, stepped, ended_by, next};
@@ -16,20 +16,22 @@ use stamps::clock_rule::ClockRule;
 use stamps::refusal::Refusal;
 
 // A script's most bytes without those of its layout.
-const MOST_BYTES_AFTER_LAYOUT: usize = 65_530;
+const MOST_SCRIPT_BYTES_AFTER_LAYOUT: usize = 65_530;
 
+// The bytes after a layout that are a script's.
 fn after_layout_of<'a>(bytes: &'a [u8]) -> &'a [u8]
     ensures { result.now ≡ take 65530 bytes.now }
 {
-    if bytes.len() > MOST_BYTES_AFTER_LAYOUT {
-        &bytes[0..MOST_BYTES_AFTER_LAYOUT]
+    if bytes.len() > MOST_SCRIPT_BYTES_AFTER_LAYOUT {
+        &bytes[0..MOST_SCRIPT_BYTES_AFTER_LAYOUT]
     } else {
         bytes
     }
 }
 
 impl<'a, C: ClockRule, K: MarkKind> Listing<'a, C, K> {
-    // The commands that follow the layout of a group.
+    // The commands that follow the layout of a group. Its line was the first, so theirs count from 2. Bytes past the
+    // first 65,530 are no part of the script.
     pub fn new(group: Group<C, K>, bytes: &'a [u8]) -> Self
         ensures { view result ≡ after_layout (group_view group) bytes.now }
     {
