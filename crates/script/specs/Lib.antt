@@ -2,8 +2,8 @@ pub mod Answers
 pub mod Steps
 pub mod Stores
 pub mod Lines
-pub mod Listings
 pub mod Scripts
+pub mod Listings
 pub mod Counting
 pub mod Kept
 pub mod Laws

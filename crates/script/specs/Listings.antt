@@ -1,5 +1,5 @@
 -- A script over a group that the caller made, command by command, for any clock rule and kind of mark.
-use Rattle.std.specs.Prelude.{ℕ, ◌+◌, List, [], ◌∷◌, take, Some, None, Ok, Err, Option, Result}
+use Rattle.std.specs.Prelude.{◌≡◌, ℕ, ◌+◌, List, [], ◌∷◌, ◌++◌, take, Some, None, Ok, Err, Option, Result}
 use Rattle.stamps.specs.declared.refusal.Refusal.{Refusal}
 use Rattle.stamps.specs.declared.clock_rule as clock_rule
 use Rattle.marks.specs.declared.mark_kind as mark_kind
@@ -8,11 +8,16 @@ use Rattle.servers.specs.Servers.{Rule}
 use Rattle.model.specs.Groups.{GroupState}
 use Rattle.group.specs.Groups as group
 use Rattle.commands.specs.declared.command.Command.{Command}
+use Rattle.commands.specs.declared.command.Command.TheVariants.{Layout}
 use Rattle.commands.specs.Commands.{read_command}
+use Rattle.commands.specs.Writing.{Lawful, written}
 use Rattle.script.specs.declared.listing.Listing.{Listing}
-use Rattle.script.specs.Answers.{Said, refused}
+use Rattle.script.specs.Answers.{Said, done, refused}
 use Rattle.script.specs.Lines.{line_of}
+use Rattle.script.specs.Scripts as script
+use Rattle.script.specs.Scripts.{ScriptState, begun}
 use Rattle.script.specs.Steps.{performed}
+use Rattle.script.specs.Stores.{Clock, Marks, made, clock_rule_of, mark_kind_of, made_store}
 
 pub record ListingState : Type 0 where
   -- what is left of the script
@@ -56,3 +61,22 @@ next_at rule k s (letter ∷ bytes) = Some (numbered letter (stepped rule k s))
 
 abbrev pub next : Rule → Kind → ListingState → Option (List ℕ × ListingState)
 next rule k s = next_at rule k s s.rest
+
+-- a listing over a group of a built clock rule and kind of mark, as the script that has made this group
+abbrev pub as_script : Clock → Marks → ListingState → ScriptState
+as_script clock marks s = record { rest = s.rest; lines = s.lines; store = made clock marks s.group }
+
+abbrev pub line_as_script : Clock → Marks → Option (List ℕ × ListingState) → Option (List ℕ × ScriptState)
+line_as_script clock marks None = None
+line_as_script clock marks (Some (line, after)) = Some (line, as_script clock marks after)
+
+-- A script is a layout, and then the listing over the group that the layout makes.
+pub record GoesOnAsScript : Type 0 where
+  -- after its layout, whose letter is 76, it stands where that listing begins
+  pub begins : (sites partitions clock_letter marks_letter : ℕ) (bytes : List ℕ) (clock : Clock) (marks : Marks) (g : GroupState) →
+      let layout = Layout sites partitions clock_letter marks_letter in
+      Lawful layout → made_store layout ≡ Ok (made clock marks g)
+      → script.next (begun (written layout ++ bytes)) ≡ Some (line_of 1 76 done, as_script clock marks (after_layout g bytes))
+  -- then they go on alike
+  pub goes_on : (clock : Clock) (marks : Marks) (s : ListingState)
+      → script.next (as_script clock marks s) ≡ line_as_script clock marks (next (clock_rule_of clock) (mark_kind_of marks) s)

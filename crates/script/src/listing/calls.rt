@@ -2,7 +2,7 @@
 ghost use Rattle.std.specs.Prelude.{◌≡◌, ◌<◌, ◌≤◌, length, take, IfOk, Ok as Listed, Some as Line};
 ghost use Rattle.script.specs.Answers.{said};
 ghost use Rattle.script.specs.Scripts.{written, line_into, AtMost96};
-ghost use Rattle.script.specs.Listings.{view, after_layout, stepped, ended_by, next};
+ghost use Rattle.script.specs.Listings.{view, after_layout, stepped, ended_by, next, GoesOnAsScript};
 ghost use Rattle.group.specs.Groups.{view as group_view};
 
 use super::Listing;
@@ -33,7 +33,8 @@ impl<'a, C: ClockRule, K: MarkKind> Listing<'a, C, K> {
     // The commands that follow the layout of a group. Its line was the first, so theirs count from 2. Bytes past the
     // first 65,530 are no part of the script.
     pub fn new(group: Group<C, K>, bytes: &'a [u8]) -> Self
-        ensures { view result ≡ after_layout (group_view group) bytes.now }
+        ensures state { view result ≡ after_layout (group_view group) bytes.now }
+        ensures goes_on { GoesOnAsScript }
     {
         Listing {
             rest: after_layout_of(bytes),
