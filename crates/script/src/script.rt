@@ -14,4 +14,4 @@ pub struct Script<'a> {
 
 mod calls;
 
-pub(crate) use calls::script_of;
+pub(crate) use calls::{MOST_SCRIPT_BYTES, first_bytes, script_of};

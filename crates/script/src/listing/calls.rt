@@ -1,5 +1,5 @@
 // The making of a listing over a group, and its next line.
-ghost use Rattle.std.specs.Prelude.{◌≡◌, ◌<◌, ◌≤◌, length, take, IfOk, Ok as Listed, Some as Line};
+ghost use Rattle.std.specs.Prelude.{◌≡◌, ◌<◌, ◌≤◌, length, IfOk, Ok as Listed, Some as Line};
 ghost use Rattle.script.specs.Answers.{said};
 ghost use Rattle.script.specs.Scripts.{written, line_into, AtMost96};
 ghost use Rattle.script.specs.Listings.{view, after_layout, stepped, ended_by, next, GoesOnAsScript};
@@ -9,25 +9,15 @@ use super::Listing;
 use crate::answer::Answer;
 use crate::line::{MOST_BYTES, write_line};
 use crate::perform::perform;
+use crate::script::{MOST_SCRIPT_BYTES, first_bytes};
 use commands::reader::read;
 use group::group::Group;
 use marks::mark_kind::MarkKind;
 use stamps::clock_rule::ClockRule;
 use stamps::refusal::Refusal;
 
-// A script's most bytes without those of its layout.
-const MOST_SCRIPT_BYTES_AFTER_LAYOUT: usize = 65_530;
-
-// The bytes after a layout that are a script's.
-fn after_layout_of<'a>(bytes: &'a [u8]) -> &'a [u8]
-    ensures { result.now ≡ take 65530 bytes.now }
-{
-    if bytes.len() > MOST_SCRIPT_BYTES_AFTER_LAYOUT {
-        &bytes[0..MOST_SCRIPT_BYTES_AFTER_LAYOUT]
-    } else {
-        bytes
-    }
-}
+// The bytes of a layout, which count among those of its script.
+const LAYOUT_BYTES: usize = 5;
 
 impl<'a, C: ClockRule, K: MarkKind> Listing<'a, C, K> {
     // The commands that follow the layout of a group. Its line was the first, so theirs count from 2. Bytes past the
@@ -37,7 +27,7 @@ impl<'a, C: ClockRule, K: MarkKind> Listing<'a, C, K> {
         ensures goes_on { GoesOnAsScript }
     {
         Listing {
-            rest: after_layout_of(bytes),
+            rest: first_bytes(bytes, MOST_SCRIPT_BYTES - LAYOUT_BYTES),
             lines: 1,
             group,
         }

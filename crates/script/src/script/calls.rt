@@ -1,5 +1,5 @@
 // The making of a script, and its next line.
-ghost use Rattle.std.specs.Prelude.{◌≡◌, ◌<◌, ◌≤◌, length, ◌==◌, IfOk, Ok as Listed, Some as Line};
+ghost use Rattle.std.specs.Prelude.{◌≡◌, ◌<◌, ◌≤◌, length, take, ◌==◌, IfOk, Ok as Listed, Some as Line};
 ghost use Rattle.script.specs.Answers.{said};
 ghost use Rattle.script.specs.Scripts.{view, begun, stepped, ended_by, next, first, written, line_into, AtMost96};
 
@@ -13,15 +13,22 @@ use stamps::refusal::Refusal;
 // Bytes past these are no part of a script.
 pub const MOST_SCRIPT_BYTES: usize = 65_535;
 
+// The first bytes, at most so many.
+pub(crate) fn first_bytes<'a>(bytes: &'a [u8], most: usize) -> &'a [u8]
+    ensures { result.now ≡ take most bytes.now }
+{
+    if bytes.len() > most {
+        &bytes[0..most]
+    } else {
+        bytes
+    }
+}
+
 // The bytes that are a script's.
 pub(crate) fn script_of<'a>(bytes: &'a [u8]) -> &'a [u8]
     ensures { result.now ≡ (begun bytes.now).rest }
 {
-    if bytes.len() > MOST_SCRIPT_BYTES {
-        &bytes[0..MOST_SCRIPT_BYTES]
-    } else {
-        bytes
-    }
+    first_bytes(bytes, MOST_SCRIPT_BYTES)
 }
 
 impl<'a> Script<'a> {
