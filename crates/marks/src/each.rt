@@ -26,10 +26,6 @@ impl MarkKind for Each {
 
     ghost meant = { Prim.search rules };
 
-    fn column_count() -> usize {
-        Self::COLUMNS
-    }
-
     fn row(mark: Row) -> Row {
         mark
     }

@@ -6,7 +6,9 @@ use crate::each::Each;
 use crate::mark_kind::MarkKind;
 use crate::one::One;
 use crate::outside::floor_from;
-use stamps::outside::{hybrid_stamp, raw_stamp};
+use stamps::hybrid::Hybrid;
+use stamps::outside::signed_stamp;
+use stamps::raw::Raw;
 
 // Time 100 as a stamp.
 const T100: u64 = 6_553_600;
@@ -39,9 +41,9 @@ fn hybrid_edges() -> [i64; 3]
     ensures { result ≡ answers_of (take 3 edges) }
 {
     [
-        hybrid_stamp(0, 100, 0),
-        hybrid_stamp(T100 + 3, 90, T100 + 7),
-        hybrid_stamp(T100 + 65_535, 100, 0),
+        signed_stamp::<Hybrid>(0, 100, 0),
+        signed_stamp::<Hybrid>(T100 + 3, 90, T100 + 7),
+        signed_stamp::<Hybrid>(T100 + 65_535, 100, 0),
     ]
 }
 
@@ -49,9 +51,9 @@ fn raw_edges() -> [i64; 3]
     ensures { result ≡ answers_of (take 3 (drop 3 edges)) }
 {
     [
-        raw_stamp(T100, 100, 0),
-        raw_stamp(T100, 101, 0),
-        raw_stamp(0, 100, T100),
+        signed_stamp::<Raw>(T100, 100, 0),
+        signed_stamp::<Raw>(T100, 101, 0),
+        signed_stamp::<Raw>(0, 100, T100),
     ]
 }
 

@@ -24,7 +24,10 @@ pub trait MarkKind {
     ghost meaning: { Self.Mark → Four };
 
     fn column_count() -> usize
-        ensures { result ≡ kind.columns };
+        ensures { result ≡ kind.columns }
+    {
+        Self::COLUMNS
+    }
 
     fn row(mark: Self::Mark) -> Row
         ensures { four result.entries ≡ meaning mark };

@@ -26,16 +26,12 @@ impl MarkKind for One {
 
     ghost meant = { Prim.search rules };
 
-    fn column_count() -> usize {
-        Self::COLUMNS
-    }
-
     fn row(mark: Stamp) -> Row {
         Row::same(mark)
     }
 
     fn covers(a: Stamp, b: Stamp) -> bool {
-        a.value() >= b.value()
+        a >= b
     }
 
     fn join(a: Stamp, b: Stamp) -> Stamp {

@@ -12,14 +12,14 @@ use stamps::stamp::Stamp;
 pub fn floor_from<K: MarkKind>(entries: [u64; 4]) -> Result<K::Mark, Refusal>
     ensures { row_of K.MarkKind.meaning result ≡ asked_floor K.MarkKind.kind entries }
 {
-    Ok(K::floor(Row::new(entries)?))
+    Ok(K::floor(Row::try_from(entries)?))
 }
 
 // The lift of a site and a stamp.
 pub fn lift_from<K: MarkKind>(site: u8, stamp: u64) -> Result<K::Mark, Refusal>
     ensures { row_of K.MarkKind.meaning result ≡ asked_lift K.MarkKind.kind site stamp }
 {
-    let stamp = Stamp::new(stamp)?;
-    let site = Site::new(site)?;
+    let stamp = Stamp::try_from(stamp)?;
+    let site = Site::try_from(site)?;
     Ok(K::lift(site, stamp))
 }

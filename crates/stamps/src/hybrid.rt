@@ -17,8 +17,7 @@ impl ClockRule for Hybrid {
     ghost lawful = { hybrid_lawful };
 
     fn stamp(last: Stamp, reading: Reading, dependency: Stamp) -> Result<Stamp, Refusal> {
-        let end = Stamp::last();
-        if last.value == end.value || dependency.value == end.value {
+        if last == Stamp::last() || dependency == Stamp::last() {
             return Err(Refusal::End);
         }
         let time = last.time().max(dependency.time()).max(reading.time);

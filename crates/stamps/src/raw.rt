@@ -15,10 +15,12 @@ impl ClockRule for Raw {
     ghost lawful = { raw_lawful };
 
     fn stamp(last: Stamp, reading: Reading, dependency: Stamp) -> Result<Stamp, Refusal> {
-        let made = reading.time * 65_536;
-        if made <= last.value || made <= dependency.value {
+        let made = Stamp {
+            value: reading.time * 65_536,
+        };
+        if made <= last || made <= dependency {
             return Err(Refusal::Early);
         }
-        Ok(Stamp { value: made })
+        Ok(made)
     }
 }

@@ -2,7 +2,7 @@
 ghost use Rattle.std.specs.Prelude.{◌^◌, ◌<◌};
 
 // The number is time * 65,536 + count. The time has 47 bits and the count 16.
-#[derive(Clone, Copy)]
+#[derive(Clone, Copy, PartialEq, Eq, PartialOrd, Ord)]
 pub struct Stamp {
     pub(crate) value: u64,
     ghost below: { value < 2 ^ 63 },

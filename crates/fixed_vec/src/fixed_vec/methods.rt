@@ -24,8 +24,7 @@ impl<T: Copy, const N: usize> FixedVec<T, N> {
     pub fn as_slice(&self) -> &[T]
         ensures { result.now ≡ items self.now }
     {
-        let cells = &self.cells[..];
-        &cells[0..self.len]
+        &self.cells[..self.len]
     }
 
     // One item more at the end, if there is room.
@@ -49,20 +48,13 @@ impl<T: Copy, const N: usize> FixedVec<T, N> {
     }
 
     // Another item at a place; past the end nothing changes.
+    #[tactic(auto, using(crate::proofs::Moves::replaced_below))]
     pub fn set(&mut self, index: usize, item: T)
         ensures { items self.new ≡ slice_set (items self.old) index item }
     {
         if index < self.len {
-            self.replace(index, item);
+            self.cells[index] = item;
         }
-    }
-
-    // Another item at a place where there is one.
-    fn replace(&mut self, index: usize, item: T)
-        requires { index < self.old.len }
-        ensures { items self.new ≡ slice_set (items self.old) index item }
-    {
-        self.cells[index] = item;
     }
 
     // Only the last items, so many of them; all if there are fewer.
@@ -74,14 +66,12 @@ impl<T: Copy, const N: usize> FixedVec<T, N> {
     }
 
     // All but the first items, so many of them.
+    #[tactic(auto, using(crate::proofs::Moves::moved_down))]
     fn drop_first(&mut self, gone: usize)
         requires { gone ≤ self.old.len }
         ensures { items self.new ≡ drop gone (items self.old) }
     {
-        for i in gone..self.len {
-            let item = self.cells[i];
-            self.cells[i - gone] = item;
-        }
+        self.cells.copy_within(gone..self.len, 0);
         self.len -= gone;
     }
 
@@ -89,14 +79,12 @@ impl<T: Copy, const N: usize> FixedVec<T, N> {
     pub fn retain<P: Keeps<T>>(&mut self, which: &P)
         ensures { items self.new ≡ kept (P.Keeps.keeps which.now) (items self.old) }
     {
-        let mut count = 0;
-        for i in 0..self.len {
-            let item = self.cells[i];
-            if which.keeps(&item) {
-                self.cells[count] = item;
-                count += 1;
+        let before = *self;
+        self.len = 0;
+        for item in before.as_slice() {
+            if which.keeps(item) {
+                self.append(*item);
             }
         }
-        self.len = count;
     }
 }

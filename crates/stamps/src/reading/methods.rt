@@ -5,17 +5,21 @@ ghost use Rattle.stamps.specs.Checks.{reading_number, checked_reading};
 use super::Reading;
 use crate::refusal::Refusal;
 
-impl Reading {
-    // The reading of a plain number; refused from 2^47 on.
-    pub fn new(time: u64) -> Result<Reading, Refusal>
-        ensures { reading_number result ≡ checked_reading time }
-    {
+// The reading of a plain number; refused from 2^47 on.
+impl TryFrom<u64> for Reading {
+    type Error = Refusal;
+
+    ghost try_from_gives = { λ time reading. reading_number reading ≡ checked_reading time };
+
+    fn try_from(time: u64) -> Result<Reading, Refusal> {
         if time >= 1 << 47 {
             return Err(Refusal::Unlawful);
         }
         Ok(Reading { time })
     }
+}
 
+impl Reading {
     // What a clock shows before it was told a time.
     pub fn zero() -> Reading
         ensures { result.time ≡ 0 }

@@ -8,20 +8,24 @@ use crate::refusal::Refusal;
 use crate::site::Site;
 use crate::stamp::Stamp;
 
-impl Row {
-    // The row of four plain numbers; refused if one of them is no stamp.
-    pub fn new(entries: [u64; 4]) -> Result<Row, Refusal>
-        ensures { row_numbers result ≡ checked_row entries }
-    {
-        let [a, b, c, d] = entries;
-        if a >= 1 << 63 || b >= 1 << 63 || c >= 1 << 63 || d >= 1 << 63 {
-            return Err(Refusal::Unlawful);
-        }
-        Ok(Row {
-            entries: [a, b, c, d],
-        })
-    }
+// The row of four plain numbers; refused if one of them is no stamp.
+impl TryFrom<[u64; 4]> for Row {
+    type Error = Refusal;
 
+    ghost try_from_gives = { λ entries row. row_numbers row ≡ checked_row entries };
+
+    fn try_from(entries: [u64; 4]) -> Result<Row, Refusal> {
+        let [a, b, c, d] = entries;
+        Ok(Row::of(
+            Stamp::try_from(a)?,
+            Stamp::try_from(b)?,
+            Stamp::try_from(c)?,
+            Stamp::try_from(d)?,
+        ))
+    }
+}
+
+impl Row {
     // The row of four stamps, by site number.
     pub fn of(a: Stamp, b: Stamp, c: Stamp, d: Stamp) -> Row
         ensures { four result.entries ≡ row_of a.value b.value c.value d.value }
@@ -67,8 +71,7 @@ impl Row {
     pub fn with_entry(&self, site: Site, stamp: Stamp) -> Row
         ensures { four result.entries ≡ with_entry (four self.now.entries) site.number stamp.value }
     {
-        let [a, b, c, d] = self.entries;
-        let mut entries = [a, b, c, d];
+        let mut entries = self.entries;
         entries[site.number as usize] = stamp.value;
         Row { entries }
     }
@@ -82,7 +85,8 @@ impl Row {
         a >= e && b >= f && c >= g && d >= h
     }
 
-    // The greater at each entry.
+    // The greater at each entry. Like the lesser it is written out: a function of the choice between two numbers would owe
+    // more clauses than both.
     pub fn join(&self, other: &Row) -> Row
         ensures { four result.entries ≡ join (four self.now.entries) (four other.now.entries) }
     {
@@ -110,9 +114,7 @@ impl Row {
     {
         let mut best = 0;
         for entry in &self.entries {
-            if *entry > best {
-                best = *entry;
-            }
+            best = best.max(*entry);
         }
         Stamp { value: best }
     }

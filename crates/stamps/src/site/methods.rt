@@ -5,17 +5,21 @@ ghost use Rattle.stamps.specs.Checks.{site_number, checked_site};
 use super::Site;
 use crate::refusal::Refusal;
 
-impl Site {
-    // The site of a plain number; refused from 4 on.
-    pub fn new(number: u8) -> Result<Site, Refusal>
-        ensures { site_number result ≡ checked_site number }
-    {
+// The site of a plain number; refused from 4 on.
+impl TryFrom<u8> for Site {
+    type Error = Refusal;
+
+    ghost try_from_gives = { λ number site. site_number site ≡ checked_site number };
+
+    fn try_from(number: u8) -> Result<Site, Refusal> {
         if number >= 4 {
             return Err(Refusal::NotInLayout);
         }
         Ok(Site { number })
     }
+}
 
+impl Site {
     pub fn number(self) -> u8
         ensures { result ≡ self.number }
     {

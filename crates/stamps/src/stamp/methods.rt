@@ -1,22 +1,26 @@
-// How a stamp is made, taken apart and compared.
-ghost use Rattle.std.specs.Prelude.{◌≡◌, min, max};
+// How a stamp is made and taken apart.
+ghost use Rattle.std.specs.Prelude.{◌≡◌};
 ghost use Rattle.stamps.specs.Stamps.{last_stamp, time_of, count_of};
 ghost use Rattle.stamps.specs.Checks.{stamp_number, checked_stamp};
 
 use super::Stamp;
 use crate::refusal::Refusal;
 
-impl Stamp {
-    // The stamp of a plain number; refused from 2^63 on.
-    pub fn new(value: u64) -> Result<Stamp, Refusal>
-        ensures { stamp_number result ≡ checked_stamp value }
-    {
+// The stamp of a plain number; refused from 2^63 on.
+impl TryFrom<u64> for Stamp {
+    type Error = Refusal;
+
+    ghost try_from_gives = { λ value stamp. stamp_number stamp ≡ checked_stamp value };
+
+    fn try_from(value: u64) -> Result<Stamp, Refusal> {
         if value >= 1 << 63 {
             return Err(Refusal::Unlawful);
         }
         Ok(Stamp { value })
     }
+}
 
+impl Stamp {
     // The stamp 0.0, below which there is none.
     pub fn zero() -> Stamp
         ensures { result.value ≡ 0 }
@@ -49,27 +53,5 @@ impl Stamp {
         ensures { result ≡ count_of self.value }
     {
         self.value % 65_536
-    }
-
-    // The later of two stamps.
-    pub fn max(self, other: Stamp) -> Stamp
-        ensures { result.value ≡ max self.value other.value }
-    {
-        if self.value >= other.value {
-            self
-        } else {
-            other
-        }
-    }
-
-    // The earlier of two stamps.
-    pub fn min(self, other: Stamp) -> Stamp
-        ensures { result.value ≡ min self.value other.value }
-    {
-        if self.value <= other.value {
-            self
-        } else {
-            other
-        }
     }
 }
