@@ -1,5 +1,5 @@
 -- A vector as the plain list of its items, and what its methods answer and leave.
-use Rattle.std.specs.Prelude.{ℕ, Bool, cond, List, [], ◌∷◌, ◌++◌, length, take, Ok, Err, Result, nat_lt}
+use Rattle.std.specs.Prelude.{ℕ, cond, List, [], ◌∷◌, ◌++◌, length, take, Ok, Err, Result, nat_lt}
 use Rattle.fixed_vec.specs.declared.fixed_vec.FixedVec.{FixedVec}
 use Rattle.fixed_vec.specs.declared.fixed_vec.Full.{Full}
 
@@ -10,8 +10,3 @@ items v = take v.len v.cells
 -- a push onto at most n items: what it answers, and the items after it
 abbrev pub pushed : {T : Type 0} → ℕ → List T → T → Result (Unit {0}) Full × List T
 pushed n xs x = cond (nat_lt (length xs) n) (Ok tt, xs ++ x ∷ []) (Err (record {}), xs)
-
--- the items that a test keeps, in their order
-abbrev pub kept : {T : Type 0} → (T → Bool) → List T → List T
-kept keeps [] = []
-kept keeps (x ∷ xs) = cond (keeps x) (x ∷ kept keeps xs) (kept keeps xs)

@@ -7,7 +7,7 @@ use std::alloc::AllocError;
 #[derive(Clone, Copy, PartialEq, Eq, Debug)]
 pub struct Full;
 
-// Which items are to stay.
+// Which items are to stay. A trait and no closure: that a closure may be called would have to be asked of the caller.
 pub trait Keeps<T> {
     ghost keeps: { Self → T → Bool };
 
@@ -15,7 +15,8 @@ pub trait Keeps<T> {
         ensures { result ≡ keeps self.now item.now };
 }
 
-// The items are the first `len` cells; the cells after them hold anything.
+// The items are the first `len` cells; the cells after them hold anything. They are held in place, since the store takes no
+// memory while it runs.
 pub struct FixedVec<T, const N: usize> {
     cells: [T; N],
     len: usize,
@@ -23,6 +24,7 @@ pub struct FixedVec<T, const N: usize> {
     ghost fits: { len ≤ N },
 }
 
+// Written out, since a generic struct with a ghost field cannot derive it.
 impl<T: Copy, const N: usize> Clone for FixedVec<T, N> {
     ghost is_clone = { λ s r. r ≡ s };
 

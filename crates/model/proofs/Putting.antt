@@ -159,7 +159,3 @@ module _ {k : Kind} {L : Shape} {P : Pasts} {T : Tables} {G : Ghost} (h : Core k
       cuts = cuts_received up h.cuts;
       pasts = pasts_rise up (rises_same T.stable) (grown_same T.opened T.session) (λ w j. inr j) h.pasts;
     }
-
-    -- site s has the version
-    pub kept_here : Had L (receiving T.received s n s v.stamp) s v
-    kept_here = has v refl

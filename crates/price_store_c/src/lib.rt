@@ -9,13 +9,16 @@ ghost use Rattle.script.specs.Scripts.{listing_into};
 ghost use Rattle.price_store_c.specs.Signed.{with_number};
 
 use script::list::list_into;
+use stamps::hybrid::Hybrid;
+use stamps::outside::signed_stamp;
+use stamps::raw::Raw;
 
 // The stamp that the raw rule answers, or minus the refusal's number.
 #[unsafe(no_mangle)]
 pub extern "C" fn raw_stamp(last: u64, reading: u64, dependency: u64) -> i64
     ensures { result ≡ signed_number (asked_stamp rawly last reading dependency) }
 {
-    stamps::outside::raw_stamp(last, reading, dependency)
+    signed_stamp::<Raw>(last, reading, dependency)
 }
 
 // The stamp that the hybrid rule answers, or minus the refusal's number.
@@ -23,7 +26,7 @@ pub extern "C" fn raw_stamp(last: u64, reading: u64, dependency: u64) -> i64
 pub extern "C" fn hybrid_stamp(last: u64, reading: u64, dependency: u64) -> i64
     ensures { result ≡ signed_number (asked_stamp hybridly last reading dependency) }
 {
-    stamps::outside::hybrid_stamp(last, reading, dependency)
+    signed_stamp::<Hybrid>(last, reading, dependency)
 }
 
 // Writes the listing of a script to the start of the buffer: its length, or -16 with nothing changed if the buffer has

@@ -1,6 +1,5 @@
 pub mod Keeping
 pub mod Latest
-pub mod Outdating
 pub mod Queues
 pub mod Rising
 pub mod RowEntries

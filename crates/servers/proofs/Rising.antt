@@ -8,23 +8,12 @@ use Rattle.stamps.specs.Rows.{Four, Stamps, at, greatest, with_entry}
 use Rattle.stamps.specs.Stamps.{last_stamp}
 use Rattle.marks.specs.Kinds.{Kind}
 use Rattle.servers.specs.Entries.{Sent, heartbeat, update}
-use Rattle.servers.specs.Laws.{Above, Call, In, Lawful, Life, Rising, RisingLaw, beat, called, hand_over, life, newest, put, raise, report, stamped, take_from, tell, tidy, unstamped}
+use Rattle.servers.specs.Laws.{Call, In, Lawful, Life, Rising, RisingLaw, beat, called, hand_over, life, newest, put, raise, report, stamped, take_from, tell, tidy, unstamped}
 use Rattle.servers.specs.Outboxes.{outbox_full}
 use Rattle.servers.specs.Servers.{Rule, ServerState, beaten_at, first_entry, first_received, keeping, last_of, putting_at, receiving, taking_other, told_reading}
 use Rattle.servers.specs.Tables.{table_full}
 use Rattle.servers.specs.Values.{Worth}
 use Rattle.servers.proofs.RowEntries.{at_other, at_same, by_site}
-
-allowed_above : (last dependency : ℕ) (r : Result ℕ Refusal) → Allowed last dependency r → Above last r
-allowed_above last dependency (Ok stamp) a = a.0
-allowed_above last dependency (Err why) a = tt
-
--- the answer of a lawful rule, and that it is above the last stamp, by whichever term that is
-pub answer_rises : (rule : Rule) → LawfulRule rule → (last own reading dependency : ℕ) (r : Result ℕ Refusal) → own ≡ last → last < 2 ^ 63 → reading < 2 ^ 47 → dependency < 2 ^ 63
-    → r ≡ rule own reading dependency → (r ≡ rule last reading dependency) × Above last r
-answer_rises rule lawful last own reading dependency r same l t d e =
-    let is = e ∙ ap (λ n. rule n reading dependency) same in
-    (is, subst (Above last) (sym is) (allowed_above last dependency (rule last reading dependency) (lawful.allowed last reading dependency l t d)))
 
 -- what all calls keep, of a server of a site
 record Sound (site : ℕ) (l : Life) : Type 0 where

@@ -1,7 +1,7 @@
 -- Site numbers, and the entry of a site in a row.
-use Rattle.std.proofs.Common.{◌≡◌, ℕ, zero, suc, ◌^◌, ◌<◌, cond, eqb, sym, refl, arith}
+use Rattle.std.proofs.Common.{◌≡◌, ℕ, zero, suc, ◌<◌, cond, eqb, sym, refl, arith}
 use Rattle.std.proofs.lemmas.Bool.{cond-false, ne_eqb}
-use Rattle.stamps.specs.Rows.{Four, Stamps, at, with_entry}
+use Rattle.stamps.specs.Rows.{Four, at, with_entry}
 
 -- a fact of every site number: the four, and those past them
 pub by_site : (P : ℕ → Type 0) → P 0 → P 1 → P 2 → P 3 → ((n : ℕ) → P (suc (suc (suc (suc n))))) → (i : ℕ) → P i
@@ -10,10 +10,6 @@ by_site P a b c d e (suc zero) = b
 by_site P a b c d e (suc (suc zero)) = c
 by_site P a b c d e (suc (suc (suc zero))) = d
 by_site P a b c d e (suc (suc (suc (suc n)))) = e n
-
--- an entry of a row of stamps is a stamp
-pub at_stamp : (x : Four) (i : ℕ) → i < 4 → Stamps x → at x i < 2 ^ 63
-at_stamp x i few h = by_site (λ k. k < 4 → at x k < 2 ^ 63) (λ _. h.0) (λ _. h.1) (λ _. h.2) (λ _. h.3) (λ n l. absurd (omega arith)) i few
 
 -- with another stamp at a site, that site has it
 pub at_same : (x : Four) (i s : ℕ) → i < 4 → at (with_entry x i s) i ≡ s

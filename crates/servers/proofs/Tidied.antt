@@ -1,7 +1,6 @@
 -- Tidying keeps what has to stay, and drops only what a version that stays stands in for.
-use Rattle.std.proofs.Common.{◌≡◌, Bool, true, false, cond, not, ◌&&◌, eqb, ◌⊎◌, List, [], ◌∷◌, Some, None, Option, sym, refl, ap, ◌∙◌, subst, inl, inr, ⊎_elim, arith}
+use Rattle.std.proofs.Common.{◌≡◌, Bool, true, false, cond, not, ◌&&◌, eqb, ◌⊎◌, List, [], ◌∷◌, Some, None, Option, sym, refl, ap, ◌∙◌, subst, inl, inr, ⊎_elim, arith, filter}
 use Rattle.std.proofs.lemmas.Bool.{and_from, and_parts, cases_Bool, eq-eqb, eqb-true, false≢true, or_cases, or_left, or_right}
-use Rattle.fixed_vec.specs.Items.{kept}
 use Rattle.marks.specs.Kinds.{Kind}
 use Rattle.stamps.specs.Rows.{Four}
 use Rattle.servers.specs.Versions.{VersionState, later}
@@ -10,19 +9,19 @@ use Rattle.servers.specs.Laws.{AsLate, In, IsLatest, IsTidied, Later}
 use Rattle.servers.proofs.Keeping.{kept_length}
 use Rattle.servers.proofs.Latest.{as_late_later, latest_law, later_from, later_gives, not_both}
 
-pub kept_held : {A : Type 0} (p : A → Bool) (xs : List A) (x : A) → In x (kept p xs) → In x xs
+pub kept_held : {A : Type 0} (p : A → Bool) (xs : List A) (x : A) → In x (filter p xs) → In x xs
 kept_held p [] x i = i
 kept_held p (y ∷ ys) x i = go (p y) (kept_held p ys x) i
   where
-    go : (b : Bool) → (In x (kept p ys) → In x ys) → In x (cond b (y ∷ kept p ys) (kept p ys)) → (x ≡ y) ⊎ In x ys
+    go : (b : Bool) → (In x (filter p ys) → In x ys) → In x (cond b (y ∷ filter p ys) (filter p ys)) → (x ≡ y) ⊎ In x ys
     go true rec j = ⊎_elim inl (λ h. inr (rec h)) j
     go false rec j = inr (rec j)
 
-pub kept_stays : {A : Type 0} (p : A → Bool) (xs : List A) (x : A) → In x xs → p x ≡ true → In x (kept p xs)
+pub kept_stays : {A : Type 0} (p : A → Bool) (xs : List A) (x : A) → In x xs → p x ≡ true → In x (filter p xs)
 kept_stays p [] x i e = i
 kept_stays p (y ∷ ys) x i e = go (p y) refl (λ j. kept_stays p ys x j e) i
   where
-    go : (b : Bool) → p y ≡ b → (In x ys → In x (kept p ys)) → (x ≡ y) ⊎ In x ys → In x (cond b (y ∷ kept p ys) (kept p ys))
+    go : (b : Bool) → p y ≡ b → (In x ys → In x (filter p ys)) → (x ≡ y) ⊎ In x ys → In x (cond b (y ∷ filter p ys) (filter p ys))
     go true is rec j = ⊎_elim inl (λ h. inr (rec h)) j
     go false is rec j = ⊎_elim (λ s. absurd (false≢true (sym is ∙ ap p (sym s) ∙ e))) rec j
 

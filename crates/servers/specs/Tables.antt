@@ -1,6 +1,6 @@
 -- Tables of versions: the latest that is shown, and tidying.
-use Rattle.std.specs.Prelude.{ℕ, ◌-◌, Bool, false, cond, not, ◌&&◌, ◌||◌, List, [], ◌∷◌, ◌++◌, length, Some, None, Option, ◌==◌, nat_le}
-use Rattle.fixed_vec.specs.Items.{kept}
+use Rattle.std.specs.Prelude.{ℕ, ◌-◌, Bool, cond, not, ◌&&◌, ◌||◌, List, [], ◌∷◌, ◌++◌, length, Some, None, Option, ◌==◌, nat_le, filter}
+use Rattle.std.specs.List.{list_any}
 use Rattle.stamps.specs.Rows.{Four, covers}
 use Rattle.marks.specs.Kinds.{Kind}
 use Rattle.servers.specs.Versions.{VersionState, later, full_mark}
@@ -31,12 +31,11 @@ abbrev pub outdated_by : Kind → Four → VersionState → VersionState → Boo
 outdated_by k safe v w = w.key == v.key && (later w v && covered k safe w)
 
 abbrev pub outdated : Kind → Four → List VersionState → VersionState → Bool
-outdated k safe [] v = false
-outdated k safe (w ∷ ws) v = outdated_by k safe v w || outdated k safe ws v
+outdated k safe vs v = list_any (outdated_by k safe v) vs
 
 -- what tidying keeps
 abbrev pub tidied : Kind → Four → List VersionState → List VersionState
-tidied k safe vs = kept (λ v. not (outdated k safe vs v)) vs
+tidied k safe vs = filter (λ v. not (outdated k safe vs v)) vs
 
 -- how many versions it drops, and what is held after it
 abbrev pub tidying : Kind → Four → List VersionState → ℕ × List VersionState

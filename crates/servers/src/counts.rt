@@ -1,4 +1,4 @@
-// A count for each site number.
+// A count for each site number. No generic type with `Row`, since what an entry is, a count or a stamp, is in its invariant.
 ghost use Rattle.std.specs.Prelude.{◌≡◌, length};
 
 #[derive(Clone, Copy)]

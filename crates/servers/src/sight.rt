@@ -7,7 +7,7 @@ use crate::version::Version;
 use marks::mark_kind::MarkKind;
 use stamps::site::Site;
 
-// A test of versions.
+// A test of versions. A trait and no closure, so that a contract can name what it shows.
 pub(crate) trait Sight {
     ghost shows: { Self → VersionState → Bool };
 
@@ -26,8 +26,7 @@ impl<K: MarkKind> Sight for Visible<K> {
     ghost shows = { λ s. visible K.MarkKind.kind s.site.number (K.MarkKind.meaning s.stable) };
 
     fn shows(&self, version: &Version) -> bool {
-        version.source.number() == self.site.number()
-            || K::covers(self.stable, version.full_mark::<K>())
+        version.source == self.site || K::covers(self.stable, version.full_mark::<K>())
     }
 }
 

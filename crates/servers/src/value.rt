@@ -9,19 +9,16 @@ use stamps::refusal::Refusal;
 #[derive(Clone, Copy)]
 pub enum Basis {
     // The finished part.
-    Part,
+    Part = 0,
     // The whole sheet.
-    Sheet,
+    Sheet = 1,
 }
 
 impl Basis {
     pub(crate) fn amount(self) -> u32
         ensures { result ≡ amount_of (basis_worth self) }
     {
-        match self {
-            Basis::Part => 0,
-            Basis::Sheet => 1,
-        }
+        self as u32
     }
 }
 
@@ -36,7 +33,7 @@ pub enum Value {
 }
 
 impl Value {
-    // The value of a kind byte and an amount, if there is one.
+    // The value of a kind byte and an amount, as a script has them, if there is one.
     pub fn new(kind: u8, amount: u32) -> Result<Value, Refusal>
         ensures { worth_of result ≡ worth_from kind amount }
     {

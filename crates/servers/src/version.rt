@@ -42,8 +42,7 @@ impl Version {
     pub(crate) fn is_later(&self, other: &Version) -> bool
         ensures { result ≡ later (plain self.now) (plain other.now) }
     {
-        let (stamp, others) = (self.stamp.value(), other.stamp.value());
-        stamp > others || stamp == others && self.source.number() > other.source.number()
+        (self.stamp, self.source) > (other.stamp, other.source)
     }
 
     // The mark of all that whoever has seen this version depends on.

@@ -11,9 +11,6 @@ of_same a b c d a' b' c' d' p q r s = cc
 pub same_rows : (x y : Four) → x.site0 ≡ y.site0 → x.site1 ≡ y.site1 → x.site2 ≡ y.site2 → x.site3 ≡ y.site3 → x ≡ y
 same_rows x y p q r s = of_same x.site0 x.site1 x.site2 x.site3 _ _ _ _ p q r s
 
-pub same_from_covers : (x y : Four) → Covers x y → Covers y x → x ≡ y
-same_from_covers x y p q = same_rows x y (omega arith) (omega arith) (omega arith) (omega arith)
-
 pub covers_trans : (x y z : Four) → Covers x y → Covers y z → Covers x z
 covers_trans x y z p q = (omega arith, omega arith, omega arith, omega arith)
 

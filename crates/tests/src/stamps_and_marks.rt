@@ -4,7 +4,9 @@ use marks::each::Each;
 use marks::mark_kind::MarkKind;
 use marks::one::One;
 use marks::outside::{floor_from, lift_from};
-use stamps::outside::{hybrid_stamp, raw_stamp};
+use stamps::hybrid::Hybrid;
+use stamps::outside::signed_stamp;
+use stamps::raw::Raw;
 use stamps::reading::Reading;
 use stamps::refusal::Refusal;
 use stamps::row::Row;
@@ -20,13 +22,13 @@ const LAST: u64 = 9_223_372_036_854_775_807;
 
 #[test]
 fn numbers_past_the_range_are_refused(rt: HostRuntime) -> Result<(), Fail> {
-    assert_eq!(rt; Stamp::new(LAST)?.value(), LAST);
-    assert_eq!(rt; Stamp::new(1 << 63).err(), Some(Refusal::Unlawful));
-    assert_eq!(rt; Reading::new((1 << 47) - 1)?.time(), (1 << 47) - 1);
-    assert_eq!(rt; Reading::new(1 << 47).err(), Some(Refusal::Unlawful));
-    assert_eq!(rt; Site::new(3)?.number(), 3);
-    assert_eq!(rt; Site::new(4).err(), Some(Refusal::NotInLayout));
-    assert_eq!(rt; Row::new([0, 0, 1 << 63, 0]).err(), Some(Refusal::Unlawful));
+    assert_eq!(rt; Stamp::try_from(LAST)?.value(), LAST);
+    assert_eq!(rt; Stamp::try_from(1 << 63).err(), Some(Refusal::Unlawful));
+    assert_eq!(rt; Reading::try_from((1 << 47) - 1)?.time(), (1 << 47) - 1);
+    assert_eq!(rt; Reading::try_from(1 << 47).err(), Some(Refusal::Unlawful));
+    assert_eq!(rt; Site::try_from(3u8)?.number(), 3);
+    assert_eq!(rt; Site::try_from(4u8).err(), Some(Refusal::NotInLayout));
+    assert_eq!(rt; Row::try_from([0, 0, 1 << 63, 0]).err(), Some(Refusal::Unlawful));
     Ok(())
 }
 
@@ -38,25 +40,25 @@ fn refusals_count_from_1_to_16(rt: HostRuntime) {
 
 #[test]
 fn hybrid_counts_and_carries(rt: HostRuntime) {
-    assert_eq!(rt; hybrid_stamp(0, 100, 0), 6_553_600);
-    assert_eq!(rt; hybrid_stamp(T100 + 3, 90, T100 + 7), 6_553_608);
-    assert_eq!(rt; hybrid_stamp(T100 + 65_535, 100, 0), 6_619_136);
+    assert_eq!(rt; signed_stamp::<Hybrid>(0, 100, 0), 6_553_600);
+    assert_eq!(rt; signed_stamp::<Hybrid>(T100 + 3, 90, T100 + 7), 6_553_608);
+    assert_eq!(rt; signed_stamp::<Hybrid>(T100 + 65_535, 100, 0), 6_619_136);
 }
 
 #[test]
 fn hybrid_refuses_the_end_and_what_is_unlawful(rt: HostRuntime) {
-    assert_eq!(rt; hybrid_stamp(LAST, 100, 0), -8);
-    assert_eq!(rt; hybrid_stamp(1 << 63, 100, 0), -3);
-    assert_eq!(rt; hybrid_stamp(0, 1 << 47, 0), -3);
-    assert_eq!(rt; hybrid_stamp(0, 100, 1 << 63), -3);
+    assert_eq!(rt; signed_stamp::<Hybrid>(LAST, 100, 0), -8);
+    assert_eq!(rt; signed_stamp::<Hybrid>(1 << 63, 100, 0), -3);
+    assert_eq!(rt; signed_stamp::<Hybrid>(0, 1 << 47, 0), -3);
+    assert_eq!(rt; signed_stamp::<Hybrid>(0, 100, 1 << 63), -3);
 }
 
 #[test]
 fn raw_waits_for_the_reading(rt: HostRuntime) {
-    assert_eq!(rt; raw_stamp(T100, 100, 0), -7);
-    assert_eq!(rt; raw_stamp(T100, 101, 0), 6_619_136);
-    assert_eq!(rt; raw_stamp(0, 100, T100), -7);
-    assert_eq!(rt; raw_stamp(1 << 63, 100, 0), -3);
+    assert_eq!(rt; signed_stamp::<Raw>(T100, 100, 0), -7);
+    assert_eq!(rt; signed_stamp::<Raw>(T100, 101, 0), 6_619_136);
+    assert_eq!(rt; signed_stamp::<Raw>(0, 100, T100), -7);
+    assert_eq!(rt; signed_stamp::<Raw>(1 << 63, 100, 0), -3);
 }
 
 #[test]
@@ -84,7 +86,7 @@ fn lift_checks_the_stamp_before_the_site(rt: HostRuntime) -> Result<(), Fail> {
 fn common_floors(rt: HostRuntime) -> Result<(), Fail> {
     assert_eq!(rt; common_floor::<One>(&[]).value(), LAST);
     assert_eq!(rt; common_floor::<Each>(&[]).entries(), [LAST; 4]);
-    let rows = [Row::new([5, 3, 9, 4])?, Row::new([2, 6, 7, 8])?];
+    let rows = [Row::try_from([5, 3, 9, 4])?, Row::try_from([2, 6, 7, 8])?];
     assert_eq!(rt; common_floor::<One>(&rows).value(), 2);
     assert_eq!(rt; common_floor::<Each>(&rows).entries(), [2, 3, 7, 4]);
     Ok(())

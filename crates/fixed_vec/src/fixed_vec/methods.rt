@@ -1,6 +1,6 @@
 // The methods of `FixedVec`.
-ghost use Rattle.std.specs.Prelude.{◌≡◌, ◌-◌, ◌<◌, ◌≤◌, [], ◌∷◌, ◌++◌, length, drop, slice_set};
-ghost use Rattle.fixed_vec.specs.Items.{items, pushed, kept};
+ghost use Rattle.std.specs.Prelude.{◌≡◌, ◌-◌, ◌<◌, ◌≤◌, [], ◌∷◌, ◌++◌, length, drop, slice_set, filter};
+ghost use Rattle.fixed_vec.specs.Items.{items, pushed};
 
 use super::{FixedVec, Full, Keeps};
 
@@ -77,7 +77,7 @@ impl<T: Copy, const N: usize> FixedVec<T, N> {
 
     // Only the items that are to stay, in their order.
     pub fn retain<P: Keeps<T>>(&mut self, which: &P)
-        ensures { items self.new ≡ kept (P.Keeps.keeps which.now) (items self.old) }
+        ensures { items self.new ≡ filter (P.Keeps.keeps which.now) (items self.old) }
     {
         let before = *self;
         self.len = 0;

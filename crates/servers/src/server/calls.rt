@@ -28,8 +28,8 @@ impl<C: ClockRule, K: MarkKind> Server<C, K> {
         ensures step { (result, view self.new) ≡ told (view self.old) time }
         ensures keeps { RefusalKeeps result (view self.old) (view self.new) }
     {
-        let reading = Reading::new(time)?;
-        if reading.time() < self.reading.time() {
+        let reading = Reading::try_from(time)?;
+        if reading < self.reading {
             return Err(Refusal::ReadingBehind);
         }
         self.reading = reading;
@@ -144,7 +144,7 @@ impl<C: ClockRule, K: MarkKind> Server<C, K> {
     fn is_at(&self, site: Site) -> bool
         ensures { result ≡ (site.number == (view self.now).site) }
     {
-        site.number() == self.outbox.own().number()
+        site == self.outbox.own()
     }
 
     // The same from another site.

@@ -7,17 +7,21 @@ use super::SiteCount;
 use stamps::refusal::Refusal;
 use stamps::site::Site;
 
-impl SiteCount {
-    // The count of a plain number; refused unless it is 2 to 4.
-    pub fn new(number: u8) -> Result<SiteCount, Refusal>
-        ensures { count_of result ≡ checked_count number }
-    {
+// The count of a plain number; refused unless it is 2 to 4.
+impl TryFrom<u8> for SiteCount {
+    type Error = Refusal;
+
+    ghost try_from_gives = { λ number count. count_of count ≡ checked_count number };
+
+    fn try_from(number: u8) -> Result<SiteCount, Refusal> {
         if number < 2 || number > 4 {
             return Err(Refusal::BadLayout);
         }
         Ok(SiteCount { number })
     }
+}
 
+impl SiteCount {
     pub fn number(self) -> u8
         ensures { result ≡ self.number }
     {

@@ -47,7 +47,7 @@ impl VersionTable {
         before - self.versions.len()
     }
 
-    // The latest version of a key that is shown.
+    // The latest version of a key that is shown. The search keeps its place, since a version is large to copy.
     pub(crate) fn latest<S: Sight>(&self, key: u16, sight: &S) -> Option<Version>
         ensures value { shown result ≡ latest_of (S.Sight.shows sight.now) key (held self.now) }
         ensures law { IsLatest (S.Sight.shows sight.now) key (held self.now) (shown result) }

@@ -29,12 +29,10 @@ impl<K: MarkKind> Needed<K> {
     fn is_outdated(&self, item: &Version) -> bool
         ensures { result ≡ outdated K.MarkKind.kind (K.MarkKind.meaning self.now.safe) (map plain (items self.now.versions)) (plain item.now) }
     {
-        for other in self.versions.as_slice() {
-            if self.replaces(other, item) {
-                return true;
-            }
-        }
-        false
+        self.versions
+            .as_slice()
+            .iter()
+            .any(|other| self.replaces(other, item))
     }
 
     // Whether `other` is a later version of the item's key that the safe mark covers.

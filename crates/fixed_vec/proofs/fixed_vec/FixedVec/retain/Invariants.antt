@@ -1,5 +1,5 @@
-use Rattle.std.proofs.Common.{◌≡◌, ◌≤◌, take}
-use Rattle.fixed_vec.specs.Items.{items, kept}
+use Rattle.std.proofs.Common.{◌≡◌, ◌≤◌, take, filter}
+use Rattle.fixed_vec.specs.Items.{items}
 use Rattle.fixed_vec.proofs.fixed_vec.FixedVec.retain.Given as goal
 
 -- what is kept of the items so far, which are no fewer
@@ -7,4 +7,4 @@ abbrev pub invariant-loop-item : goal.invariant-loop-item
 invariant-loop-item g l =
     (l.item-items ≡ items l.fn.self)
     × (l.self.len ≤ l.item-index)
-    × (items l.self ≡ kept (g.P.Keeps.keeps l.which) (take l.item-index l.item-items))
+    × (items l.self ≡ filter (g.P.Keeps.keeps l.which) (take l.item-index l.item-items))

@@ -1,6 +1,6 @@
-use Rattle.std.proofs.Common.{◌≡◌, ◌-◌, Bool, not, map, length, sym, ap, ◌∙◌, subst, arith}
+use Rattle.std.proofs.Common.{◌≡◌, ◌-◌, Bool, not, map, length, sym, ap, ◌∙◌, subst, arith, filter}
 use Rattle.std.proofs.lemmas.List.{length-map}
-use Rattle.fixed_vec.specs.Items.{items, kept}
+use Rattle.fixed_vec.specs.Items.{items}
 use Rattle.servers.specs.Versions.{VersionState, plain}
 use Rattle.servers.specs.Tables.{outdated, tidied, tidying}
 use Rattle.servers.specs.Laws.{IsTidied}
@@ -20,7 +20,7 @@ returns g c =
     let xs = items c.args.self.now.versions in
     let keeps : VersionState → Bool = λ v. not (outdated g.K.MarkKind.kind (g.K.MarkKind.meaning c.args.safe) (map plain xs) v) in
     let held = kept_plain keeps xs (items c.retain.new.self) c.retain.ensures in
-    let after : c.len.result ≡ length (kept keeps (map plain xs)) = c.len.ensures ∙ sym (length-map (items c.retain.new.self) plain) ∙ ap length held in
+    let after : c.len.result ≡ length (filter keeps (map plain xs)) = c.len.ensures ∙ sym (length-map (items c.retain.new.self) plain) ∙ ap length held in
     let before : c.len-before.result ≡ length (map plain xs) = c.len-before.ensures ∙ sym (length-map xs plain) in
     let k = g.K.MarkKind.kind in
     let safe = g.K.MarkKind.meaning c.args.safe in
