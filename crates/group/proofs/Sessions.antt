@@ -1,5 +1,5 @@
 -- What sessions do to a group.
-use Rattle.std.proofs.Common.{◌≡◌, ℕ, suc, ◌-◌, ◌^◌, ◌<◌, Bool, true, false, cond, ◌&&◌, eqb, ltb, leb, length, Some, None, Ok, Err, Option, Result, sym, refl, ap, ◌∙◌}
+use Rattle.std.proofs.Common.{◌≡◌, ℕ, suc, ◌-◌, ◌^◌, ◌<◌, Bool, true, false, cond, ◌&&◌, eqb, ltb, leb, length, Some, None, Ok, Err, Option, Result, sym, refl, ap, ◌∙◌, subst}
 use Rattle.std.proofs.lemmas.Bool.{and_from, cond-false, cond-true, eq-eqb, lt-leb}
 use Rattle.stamps.specs.declared.refusal.Refusal.{Refusal}
 use Rattle.stamps.specs.declared.refusal.Refusal.TheVariants.{NotInLayout, NoSession, End, NoneFree, NotOpen}
@@ -11,7 +11,8 @@ use Rattle.servers.specs.Versions.{VersionState, full_mark}
 use Rattle.model.specs.Events.{Shown, Ticket}
 use Rattle.model.specs.Groups.{GroupState, SessionState, SeatState, lowest_free, partition_of, session_at, with_seat, with_server, with_session}
 use Rattle.model.specs.Calls.{server_left, on_session, on_seat_of, depending, put_left, showing, hearing, learning, snapshot_opened_at}
-use Rattle.group.specs.Sessions.{open_at}
+use Rattle.group.specs.Sessions.{free_seat, open_at}
+use Rattle.group.proofs.Cuts.{found_free}
 
 -- the server that was replaced
 server_here : (g : GroupState) (site partition : ℕ) (s : ServerState) → (with_server g site partition s).server site partition ≡ s
@@ -132,17 +133,18 @@ ticket seat serial = record { seat = seat; serial = serial }
 
 -- a snapshot is opened at the lowest free seat
 pub seats_it : (k : Kind) (g mid after : GroupState) (i partition seat : ℕ) (cut : Four) (ticket_seat ticket_serial : ℕ)
-    → ltb partition g.partitions ≡ true → ltb i (length g.sessions) ≡ true → seat ≡ lowest_free g.seats → seat < 4 → g.next_serial < 2 ^ 32 - 1
+    → ltb partition g.partitions ≡ true → ltb i (length g.sessions) ≡ true → free_seat g.seats ≡ Some seat → length g.seats ≡ 4 → g.next_serial < 2 ^ 32 - 1
     → mid ≡ learning k g i (session_at g i) partition → cut ≡ (mid.server (session_at g i).site partition).marks.stable
     → ticket_seat ≡ seat → ticket_serial ≡ mid.next_serial
     → after ≡ with_seat mid seat (Some (record { session = i; serial = mid.next_serial; cut = cut })) (suc mid.next_serial)
     → (Ok (ticket ticket_seat ticket_serial), after)
     ≡ cond (ltb partition g.partitions) (on_session g i (λ x. snapshot_opened_at k g i x partition (lowest_free g.seats))) (Err NotInLayout, g)
-seats_it k g mid after i partition seat cut ticket_seat ticket_serial has session lowest free serials learn stable seated serial sets =
+seats_it k g mid after i partition seat cut ticket_seat ticket_serial has session free four_seats serials learn stable seated serial sets =
     let x = session_at g i in
     let s = hearing k g x partition in
     let known = learning k g i x partition in
     let same : cut ≡ s.marks.stable = stable ∙ ap (λ (t : ServerState). t.marks.stable) (learnt_server k g mid i partition x learn) in
+    let found = found_free g.seats seat free in
     let done : Result Ticket Refusal × GroupState =
     (Ok (ticket seat g.next_serial), with_seat known seat (Some (record { session = i; serial = g.next_serial; cut = s.marks.stable })) (suc g.next_serial))
     in
@@ -150,7 +152,7 @@ seats_it k g mid after i partition seat cut ticket_seat ticket_serial has sessio
     ∙ ap (λ (h : GroupState). (Ok (ticket seat h.next_serial), with_seat h seat (Some (record { session = i; serial = h.next_serial; cut = cut })) (suc h.next_serial))) learn
     ∙ ap (λ m. (Ok (ticket seat g.next_serial), with_seat known seat (Some (record { session = i; serial = g.next_serial; cut = m })) (suc g.next_serial))) same
     ∙ sym (cond-false (leb (2 ^ 32 - 1) g.next_serial) (Err End, g) done (lt-leb (2 ^ 32 - 1) g.next_serial serials))
-    ∙ sym (cond-false (leb 4 seat) (Err NoneFree, g) _ (lt-leb 4 seat free))
-    ∙ ap (snapshot_opened_at k g i x partition) lowest
+    ∙ sym (cond-false (leb 4 seat) (Err NoneFree, g) _ (lt-leb 4 seat (subst (λ n. seat < n) four_seats found.1)))
+    ∙ ap (snapshot_opened_at k g i x partition) found.0
     ∙ sym (cond-true (ltb i (length g.sessions)) _ (Err NoSession, g) session)
     ∙ sym (cond-true (ltb partition g.partitions) _ (Err NotInLayout, g) has)

@@ -2,12 +2,13 @@
 ghost use Rattle.std.specs.Prelude.{◌≡◌, ◌++◌};
 ghost use Rattle.fixed_vec.specs.Items.{items};
 ghost use Rattle.marks.specs.CommonFloors.{numbers};
-ghost use Rattle.model.specs.Groups.{reported_at, stable_at, cuts_at, seat_at};
+ghost use Rattle.model.specs.Groups.{reported_at, stable_at, cuts_at};
 ghost use Rattle.std.specs.Option.{option_map};
 ghost use Rattle.group.specs.Groups.{view};
-ghost use Rattle.group.specs.Sessions.{cut_in, row_numbers};
+ghost use Rattle.group.specs.Sessions.{cut_in, row_numbers, seat_state};
 
 use super::Group;
+use crate::seat::Seat;
 use fixed_vec::FixedVec;
 use marks::mark_kind::MarkKind;
 use stamps::clock_rule::ClockRule;
@@ -46,8 +47,8 @@ impl<C: ClockRule, K: MarkKind> Group<C, K> {
         ensures { numbers (items result) ≡ stable_at (view self.now) site.number ++ cuts_at (view self.now) site.number }
     {
         let mut rows = self.stable_rows(site);
-        for seat in 0..self.seats.count() {
-            if let Some(cut) = self.cut_at(seat, site) {
+        for seat in self.seats.as_slice() {
+            if let Some(cut) = self.cut_of(*seat, site) {
                 let _ = rows.push(cut);
             }
         }
@@ -55,10 +56,10 @@ impl<C: ClockRule, K: MarkKind> Group<C, K> {
     }
 
     // The cut of the open snapshot at a seat, if its session is at the site.
-    fn cut_at(&self, number: u8, site: Site) -> Option<Row>
-        ensures { option_map row_numbers result ≡ cut_in (view self.now) site.number (seat_at (view self.now) number) }
+    fn cut_of(&self, seat: Option<Seat>, site: Site) -> Option<Row>
+        ensures { option_map row_numbers result ≡ cut_in (view self.now) site.number (option_map seat_state seat) }
     {
-        let seat = self.seats.at(number)?;
+        let seat = seat?;
         if self.session_at(seat.session).site.number() != site.number() {
             return None;
         }

@@ -30,10 +30,9 @@ impl<C: ClockRule, K: MarkKind> Group<C, K> {
         if !self.has_session(session) {
             return Err(Refusal::NoSession);
         }
-        let number = self.seats.lowest_free();
-        if number >= self.seats.count() {
+        let Some(number) = self.seats.lowest_free() else {
             return Err(Refusal::NoneFree);
-        }
+        };
         if self.next_serial == u32::MAX {
             return Err(Refusal::End);
         }
