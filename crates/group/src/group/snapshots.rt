@@ -10,6 +10,7 @@ ghost use Rattle.group.specs.Groups.{view};
 ghost use Rattle.group.specs.Sessions.{open_at, seat_numbers, seat_state};
 
 use super::Group;
+use crate::place::Place;
 use crate::seat::Seat;
 use crate::shown::Shown;
 use crate::ticket::Ticket;
@@ -24,9 +25,7 @@ impl<C: ClockRule, K: MarkKind> Group<C, K> {
         ensures step { (ticket_numbers result, view self.new) ≡ asked C.ClockRule.answer K.MarkKind.kind (view self.old) (open_snapshot session partition) }
         ensures keeps { RefusalKeeps result (view self.old) (view self.new) }
     {
-        if partition >= self.layout.partitions() {
-            return Err(Refusal::NotInLayout);
-        }
+        let partition = self.layout.partition(partition)?;
         if !self.has_session(session) {
             return Err(Refusal::NoSession);
         }
@@ -36,9 +35,8 @@ impl<C: ClockRule, K: MarkKind> Group<C, K> {
         if self.next_serial == u32::MAX {
             return Err(Refusal::End);
         }
-        let site = self.session_at(session).site;
-        self.learn(session, partition);
-        let cut = self.server(site, partition).stable();
+        let place = self.learn(session, partition);
+        let cut = self.server(place).stable();
         Ok(self.take_seat(number, session, cut))
     }
 
@@ -79,11 +77,13 @@ impl<C: ClockRule, K: MarkKind> Group<C, K> {
         ensures keeps { RefusalKeeps result (view self.old) (view self.new) }
     {
         let seat = self.open_seat(ticket)?;
-        let site = self.session_at(seat.session).site;
-        let partition = self.layout.partition_of(key);
+        let place = Place {
+            site: self.session_at(seat.session).site,
+            partition: self.layout.partition_of(key),
+        };
         let cut = K::floor(seat.cut);
-        self.raise(site, partition, cut);
-        let Some(version) = self.server(site, partition).latest_covered(key, cut) else {
+        self.raise(place, cut);
+        let Some(version) = self.server(place).latest_covered(key, cut) else {
             return Ok(None);
         };
         self.depend(seat.session, &version);

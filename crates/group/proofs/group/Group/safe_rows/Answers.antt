@@ -1,4 +1,4 @@
-use Rattle.std.proofs.Common.{◌≡◌, ◌+◌, ◌<◌, ◌≤◌, ◌++◌, None, length, get_or, drop, sym, ap, ◌∙◌, subst, arith}
+use Rattle.std.proofs.Common.{◌≡◌, ◌+◌, ◌<◌, ◌≤◌, ◌++◌, None, length, get_or, drop, sym, ap, ◌∙◌, subst, arith, rules}
 use Rattle.std.specs.Option.{option_map}
 use Rattle.std.proofs.lemmas.List.{length-map}
 use Rattle.fixed_vec.specs.Items.{items}
@@ -9,7 +9,7 @@ use Rattle.model.specs.Groups.{cuts_at, cuts_of, stable_at}
 use Rattle.group.specs.Groups.{view}
 use Rattle.group.specs.Sessions.{cut_in, row_numbers, seat_state, seat_states}
 use Rattle.group.proofs.Cuts.{cut_more, cut_none, seat_of_place}
-use Rattle.group.proofs.Rows.{length_numbers, length_first, length_pushed}
+use Rattle.group.proofs.Rows.{length_numbers, length_first, length_pushed, rows_lem}
 use Rattle.group.proofs.group.Group.safe_rows.Goals as goal
 use Rattle.group.proofs.group.Group.safe_rows.Goals.{in-Some, in_default}
 
@@ -17,9 +17,14 @@ pub loop-seat-init : goal.loop-seat-init
 loop-seat-init g c =
     let before = view c.args.self.now in
     let site = c.args.site.number in
-    let rows = items c.stable_rows-rows.result in
-    let few : length rows ≤ 4 + 0 = omega (arith, length_numbers rows, ap length c.stable_rows-rows.ensures, length_first (λ n. (before.server site n).marks.stable) before.partitions) in
-    (ap (λ t. t ++ cuts_at before site) c.stable_rows-rows.ensures, few)
+    let rows = items c.rows_of-rows.result in
+    let stable : numbers rows ≡ stable_at before site =
+    rows_lem _ (λ s. s.marks.stable) (before.server site) before.partitions rows (λ s row given. search rules) c.rows_of-rows.ensures
+    in
+    let few : length rows ≤ 4 + 0 =
+    omega (arith, length_numbers rows, ap length stable, length_first (λ n. (before.server site n).marks.stable) before.partitions, c.args.self.now.layout.some_partitions.1)
+    in
+    (ap (λ t. t ++ cuts_at before site) stable, few)
 
 pub loop-seat-preserved : goal.loop-seat-preserved
 loop-seat-preserved g c =
