@@ -1,7 +1,7 @@
 -- The cuts of open snapshots, seat by seat.
-use Rattle.std.proofs.Common.{◌≡◌, ℕ, ◌+◌, ◌<◌, ◌≤◌, Bool, true, false, cond, eqb, List, [], ◌∷◌, ◌++◌, map, length, get_or, position, ltb, drop, Some, None, Option, Result, sym, refl, ap, ◌∙◌, append_assoc, append-nil, arith}
+use Rattle.std.proofs.Common.{◌≡◌, ℕ, ◌+◌, ◌<◌, Bool, true, false, cond, eqb, List, [], ◌∷◌, ◌++◌, map, length, get_or, position, ltb, drop, Some, None, Option, Result, sym, refl, ap, ◌∙◌, append_assoc, arith}
 use Rattle.std.proofs.lemmas.Bool.{ltb-true}
-use Rattle.std.proofs.lemmas.List.{drop_all, drop_more, get_or-map, length-map}
+use Rattle.std.proofs.lemmas.List.{drop_more, get_or-map, length-map}
 use Rattle.std.specs.List.{position_or_len}
 use Rattle.std.specs.Option.{option_map}
 use Rattle.fixed_vec.specs.Items.{pushed}
@@ -51,12 +51,6 @@ pub cut_none : (g : GroupState) (site : ℕ) (seats : List (Option SeatState)) (
     → numbers xs ++ cuts_of g site (drop i seats) ≡ all → numbers xs ++ cuts_of g site (drop (i + 1) seats) ≡ all
 cut_none g site seats i xs all here cut before =
     ap (λ t. numbers xs ++ t) (sym (ap (cuts_of g site) (drop_more seats i None here) ∙ cuts_none g site (get_or seats i None) (drop (i + 1) seats) cut)) ∙ before
-
--- after the last seat
-pub cut_last : (g : GroupState) (site : ℕ) (seats : List (Option SeatState)) (i : ℕ) (xs : List Row) (all : List Four)
-    → length seats ≤ i → numbers xs ++ cuts_of g site (drop i seats) ≡ all → numbers xs ≡ all
-cut_last g site seats i xs all past before =
-    sym (append-nil (numbers xs)) ∙ ap (λ t. numbers xs ++ t) (sym (ap (cuts_of g site) (drop_all i seats past))) ∙ before
 
 -- the first place with no snapshot is the lowest free seat
 first_empty : (xs : List (Option Seat)) → position_or_len is_none xs ≡ lowest_free (map (option_map seat_state) xs)

@@ -1,5 +1,5 @@
 -- An entry that is delivered.
-use Rattle.std.proofs.Common.{◌≡◌, ℕ, Bool, true, false, refl, cond, not, ◌&&◌, eqb, Some, Ok, Err, Option, Result, sym, ap, ◌∙◌}
+use Rattle.std.proofs.Common.{◌≡◌, ℕ, true, cond, not, ◌&&◌, eqb, Some, Ok, Err, Option, Result, sym, ap, ◌∙◌}
 use Rattle.std.proofs.lemmas.Bool.{and_left, and_parts, cond-false, cond-true, eqb-false, ne_eqb, not-true}
 use Rattle.stamps.specs.declared.refusal.Refusal.{Refusal}
 use Rattle.stamps.specs.declared.refusal.Refusal.TheVariants.{NotInLayout}
@@ -10,7 +10,7 @@ use Rattle.model.specs.Groups.{GroupState, with_server}
 use Rattle.group.specs.declared.place.Place.{Place}
 use Rattle.group.specs.Groups.{called_at, server_at, with_server_at}
 use Rattle.group.specs.Layouts.{checked_line, has_line, line_numbers, numbers_of}
-use Rattle.group.proofs.Views.{by_numbers}
+use Rattle.group.proofs.Views.{by_numbers, passed}
 use Rattle.model.specs.Calls.{has_server, server_left, took_left, delivered}
 
 -- a server of another site is as it was
@@ -32,18 +32,13 @@ took g mid after from to partition (Err why, s) e f ne =
     cc
 
 -- the two servers of a line that a layout has
-pub lined : (sites partitions from to partition : ℕ) (sender taker : Place) → line_numbers (Ok (sender, taker)) ≡ checked_line sites partitions from to partition
+lined : (sites partitions from to partition : ℕ) (sender taker : Place) → line_numbers (Ok (sender, taker)) ≡ checked_line sites partitions from to partition
     → (has_line sites partitions from to partition ≡ true) × (numbers_of sender ≡ (from, partition)) × (numbers_of taker ≡ (to, partition))
-lined sites partitions from to partition sender taker e = by_test (has_line sites partitions from to partition) e
-  where
-    by_test : (b : Bool) → ◌≡◌ {A = Result ((ℕ × ℕ) × (ℕ × ℕ)) Refusal} (Ok (numbers_of sender, numbers_of taker)) (cond b (Ok ((from, partition), (to, partition))) (Err NotInLayout))
-        → (b ≡ true) × (numbers_of sender ≡ (from, partition)) × (numbers_of taker ≡ (to, partition))
-    by_test true h =
-        let both : (numbers_of sender, numbers_of taker) ≡ ((from, partition), (to, partition)) = cc in
-        let first : (ℕ × ℕ) × (ℕ × ℕ) → ℕ × ℕ = λ x. x.0 in
-        let second : (ℕ × ℕ) × (ℕ × ℕ) → ℕ × ℕ = λ x. x.1 in
-        (refl, ap first both, ap second both)
-    by_test false h = cc
+lined sites partitions from to partition sender taker e =
+    let p = passed (has_line sites partitions from to partition) (numbers_of sender, numbers_of taker) ((from, partition), (to, partition)) e in
+    let first : (ℕ × ℕ) × (ℕ × ℕ) → ℕ × ℕ = λ x. x.0 in
+    let second : (ℕ × ℕ) × (ℕ × ℕ) → ℕ × ℕ = λ x. x.1 in
+    (p.0, ap first p.1, ap second p.1)
 
 -- the sender's next entry for the taker, and what the taker has made of it, by numbers
 waiting : (g : GroupState) (from to partition : ℕ) (sender taker : Place) (next : Option Sent) → numbers_of sender ≡ (from, partition) → numbers_of taker ≡ (to, partition)
@@ -91,17 +86,6 @@ took_not g mid from to partition why (Ok done, s) e =
     let no : Err why ≡ Ok done = ap first e in
     cc
 took_not g mid from to partition why (Err other, s) e = e
-
--- a refusal of a server leaves the group as it was
-pub refused_same : (g mid : GroupState) (site partition : ℕ) (why : Refusal) (t : Result (Unit {0}) Refusal × ServerState)
-    → (Err why, mid) ≡ server_left g site partition t → mid ≡ g
-refused_same g mid site partition why (Ok done, s) e =
-    let first : Result (Unit {0}) Refusal × GroupState → Result (Unit {0}) Refusal = λ x. x.0 in
-    let no : Err why ≡ Ok done = ap first e in
-    cc
-refused_same g mid site partition why (Err other, s) e =
-    let second : Result (Unit {0}) Refusal × GroupState → GroupState = λ x. x.1 in
-    ap second e
 
 -- an entry waits, and the taker has refused it
 pub deliver_not : (g mid : GroupState) (from to partition : ℕ) (sender taker : Place) (why : Refusal) (next : Option Sent) (entry : Sent)

@@ -100,15 +100,6 @@ puts_not k g mid i key why x value (Ok given, s) wrote =
     let no : ◌≡◌ {A = Result ℕ Refusal} (Err why) (Ok given) = ap first wrote in
     cc
 
-pub left_keeps : (g mid : GroupState) (site partition : ℕ) (why : Refusal) (t : Result ℕ Refusal × ServerState) → (Err why, mid) ≡ server_left g site partition t → mid ≡ g
-left_keeps g mid site partition why (Err other, s) wrote =
-    let second : Result ℕ Refusal × GroupState → GroupState = λ y. y.1 in
-    ap second wrote
-left_keeps g mid site partition why (Ok given, s) wrote =
-    let first : Result ℕ Refusal × GroupState → Result ℕ Refusal = λ y. y.0 in
-    let no : ◌≡◌ {A = Result ℕ Refusal} (Err why) (Ok given) = ap first wrote in
-    cc
-
 -- a write, by other terms for the partition and the marks
 pub writes : (rule : Rule) (k : Kind) (g mid : GroupState) (site key p p' : ℕ) (value : Worth) (a a' b b' : Four) (r : Result ℕ Refusal)
     → p ≡ p' → a ≡ a' → b ≡ b'

@@ -17,7 +17,7 @@ use Rattle.servers.specs.declared.server.Server.{Server}
 use Rattle.group.specs.declared.group.Group.{Group}
 use Rattle.group.specs.declared.place.Place.{Place}
 use Rattle.group.specs.Groups.{at, called_at, server_at, view, with_server_at}
-use Rattle.group.specs.Layouts.{below, checked_place, numbers_of, place_numbers}
+use Rattle.group.specs.Layouts.{checked_place, numbers_of, place_numbers}
 use Rattle.group.specs.Places.{place_of}
 
 -- one server replaced in the array is that server replaced in the state
@@ -112,23 +112,10 @@ call_server rest servers place p d new r act len e step keeps =
     ∙ left_server rest xs place r (server_view new) (length-map servers server_view ∙ len) (subst (λ s. RefusalKeeps r s (server_view new)) (sym there) keeps)
     ∙ ap (server_left (state_with rest (at sites xs)) place.site.number place.partition.number) (step ∙ ap act (sym there))
 
--- a number among so many
-pub below_lem : (count number found : ℕ) → Ok found ≡ below count number → (ltb number count ≡ true) × (found ≡ number)
-below_lem count number found e = by_test (ltb number count) e
-  where
-    by_test : (b : Bool) → ◌≡◌ {A = Result ℕ Refusal} (Ok found) (cond b (Ok number) (Err NotInLayout)) → (b ≡ true) × (found ≡ number)
-    by_test true h = (refl, cc)
-    by_test false h = cc
-
--- what a place of a layout is
-pub placed : (sites partitions site partition : ℕ) (place : Place) → place_numbers (Ok place) ≡ checked_place sites partitions site partition
-    → ((ltb site sites && ltb partition partitions) ≡ true) × (numbers_of place ≡ (site, partition))
-placed sites partitions site partition place e = by_test (ltb site sites && ltb partition partitions) e
-  where
-    by_test : (b : Bool) → ◌≡◌ {A = Result (ℕ × ℕ) Refusal} (Ok (numbers_of place)) (cond b (Ok (site, partition)) (Err NotInLayout))
-        → (b ≡ true) × (numbers_of place ≡ (site, partition))
-    by_test true h = (refl, cc)
-    by_test false h = cc
+-- what a check of a layout has let through
+pub passed : {A : Type 0} (b : Bool) (found given : A) → ◌≡◌ {A = Result A Refusal} (Ok found) (cond b (Ok given) (Err NotInLayout)) → (b ≡ true) × (found ≡ given)
+passed true found given e = (refl, cc)
+passed false found given e = cc
 
 -- a server by the numbers of its place
 pub by_numbers : {X : Type 0} (f : ℕ → ℕ → X) (site partition : ℕ) (place : Place) → numbers_of place ≡ (site, partition) → f place.site.number place.partition.number ≡ f site partition
@@ -141,7 +128,7 @@ at_numbers g place site partition e = ap (λ i. g.server i place.partition.numbe
 pub on_place : {A : Type 0} (g : GroupState) (site partition : ℕ) (place : Place) (act : ServerState → Result A Refusal × ServerState)
     → place_numbers (Ok place) ≡ checked_place g.sites g.partitions site partition → called_at g place act ≡ on_server g site partition act
 on_place g site partition place act e =
-    let p = placed g.sites g.partitions site partition place e in
+    let p = passed (has_server g site partition) (numbers_of place) (site, partition) e in
     by_numbers (λ i n. server_left g i n (act (g.server i n))) site partition place p.1
     ∙ sym (cond-true (has_server g site partition) (server_left g site partition (act (g.server site partition))) (Err NotInLayout, g) p.0)
 
@@ -154,6 +141,26 @@ on_no_place {A} g site partition why act e = by_test (has_server g site partitio
         → (Err why, g) ≡ cond {A = Result A Refusal × GroupState} b (server_left g site partition (act (g.server site partition))) (Err NotInLayout, g)
     by_test true h = cc
     by_test false h = let same : why ≡ NotInLayout = cc in ap (λ w. (Err w, g)) same
+
+-- a call of the server at p, as the call of the group
+pub on_server_lem : {C K Mark A : Type 0} (rest : Rest) (servers : List (Server C K Mark)) (site partition : ℕ) (place : Place) (p : ℕ) (d new : Server C K Mark) (r : Result A Refusal)
+    (act : ServerState → Result A Refusal × ServerState)
+    → place_numbers (Ok place) ≡ checked_place rest.sites rest.partitions site partition → length servers ≡ 16 → p ≡ place_of place.site.number place.partition.number
+    → (r, server_view new) ≡ act (server_view (get_or servers p d)) → RefusalKeeps r (server_view (get_or servers p d)) (server_view new)
+    → (r, state_with rest (at rest.sites (map server_view (set servers p new)))) ≡ on_server (state_with rest (at rest.sites (map server_view servers))) site partition act
+on_server_lem rest servers site partition place p d new r act found len e step keeps =
+    call_server rest servers place p d new r act len e step keeps ∙ on_place (state_with rest (at rest.sites (map server_view servers))) site partition place act found
+
+-- a refusal of a server leaves the group as it was
+pub refused_same : {A : Type 0} (g mid : GroupState) (site partition : ℕ) (why : Refusal) (t : Result A Refusal × ServerState)
+    → (Err why, mid) ≡ server_left g site partition t → mid ≡ g
+refused_same {A} g mid site partition why (Err other, s) e =
+    let second : Result A Refusal × GroupState → GroupState = λ x. x.1 in
+    ap second e
+refused_same {A} g mid site partition why (Ok done, s) e =
+    let first : Result A Refusal × GroupState → Result A Refusal = λ x. x.0 in
+    let no : Err why ≡ Ok done = ap first e in
+    cc
 
 -- a refusal leaves the group as it was
 pub on_server_keeps : {A : Type 0} (g after : GroupState) (site partition : ℕ) (r : Result A Refusal) (act : ServerState → Result A Refusal × ServerState)

@@ -6,7 +6,8 @@ use Rattle.servers.specs.Entries.{sent}
 use Rattle.servers.specs.Outboxes.{next_for}
 use Rattle.servers.specs.Servers.{ServerState, taking}
 use Rattle.group.specs.Groups.{called_at, server_at, view}
-use Rattle.group.proofs.Delivery.{deliver_done, deliver_not, refused_same}
+use Rattle.group.proofs.Delivery.{deliver_done, deliver_not}
+use Rattle.group.proofs.Views.{refused_same}
 use Rattle.group.proofs.group.Group.deliver.Goals as goal
 
 pub returns-clause-step : goal.returns-clause-step

@@ -1,19 +1,17 @@
-use Rattle.std.proofs.Common.{◌∙◌, arith}
+use Rattle.std.proofs.Common.{arith}
 use Rattle.stamps.specs.Checks.{stamp_number}
 use Rattle.servers.specs.Servers.{beaten}
 use Rattle.group.specs.Groups.{view}
-use Rattle.group.proofs.Views.{rest_of, call_server, on_place, on_server_keeps, keeps_number, keeps_stamp}
+use Rattle.group.proofs.Views.{rest_of, on_server_lem, on_server_keeps, keeps_number, keeps_stamp}
 use Rattle.group.proofs.group.Group.heartbeat.Goals as goal
 
 pub returns : goal.returns
 returns g c =
     let self = c.args.self.now in
-    let place = c.in_ok-place.place in
     let rule = g.C.ClockRule.answer in
     let step =
-    call_server (rest_of self) self.servers place c.index.result c.index-self-index.result c.heartbeat.new.self (stamp_number c.heartbeat.result)
-    (beaten rule) (omega arith) c.index.ensures c.heartbeat.ensures.step (keeps_number _ _ c.heartbeat.result c.heartbeat.ensures.keeps)
-    ∙ on_place (view self) c.args.site c.args.partition place (beaten rule) c.in_ok-place.ensures
+    on_server_lem (rest_of self) self.servers c.args.site c.args.partition c.in_ok-place.place c.index.result c.index-self-index.result c.heartbeat.new.self (stamp_number c.heartbeat.result)
+    (beaten rule) c.in_ok-place.ensures (omega arith) c.index.ensures c.heartbeat.ensures.step (keeps_number _ _ c.heartbeat.result c.heartbeat.ensures.keeps)
     in
     record {
       step = step;

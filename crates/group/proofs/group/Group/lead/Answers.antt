@@ -1,15 +1,17 @@
 use Rattle.std.proofs.Common.{ap, ◌∙◌, arith}
 use Rattle.std.proofs.lemmas.Int.{to_z-of_z}
 use Rattle.servers.specs.Servers.{lead_of}
+use Rattle.model.specs.Calls.{has_server}
+use Rattle.group.specs.Layouts.{numbers_of}
 use Rattle.group.specs.Groups.{view}
-use Rattle.group.proofs.Views.{by_numbers, placed}
+use Rattle.group.proofs.Views.{by_numbers, passed}
 use Rattle.group.proofs.group.Group.lead.Goals as goal
 
 pub returns : goal.returns
 returns g c =
     let before = view c.args.self.now in
     let place = c.in_ok-place.place in
-    let is = placed before.sites before.partitions c.args.site c.args.partition place c.in_ok-place.ensures in
+    let is = passed (has_server before c.args.site c.args.partition) (numbers_of place) (c.args.site, c.args.partition) c.in_ok-place.ensures in
     let same = ap lead_of (c.server.ensures ∙ by_numbers before.server c.args.site c.args.partition place is.1) in
     let has = is.0 in
     grind (arith, to_z-of_z, c.lead.ensures, same, has)

@@ -1,4 +1,4 @@
-use Rattle.std.proofs.Common.{sym, ap, ◌∙◌, arith}
+use Rattle.std.proofs.Common.{ltb, sym, ap, ◌∙◌, arith}
 use Rattle.std.specs.Option.{option_map}
 use Rattle.std.proofs.lemmas.List.{length-map}
 use Rattle.stamps.specs.Rows.{four}
@@ -7,7 +7,7 @@ use Rattle.model.specs.Groups.{session_at}
 use Rattle.model.specs.Calls.{learning}
 use Rattle.group.specs.Groups.{view}
 use Rattle.group.specs.Sessions.{seat_state}
-use Rattle.group.proofs.Views.{at_numbers, below_lem}
+use Rattle.group.proofs.Views.{at_numbers, passed}
 use Rattle.group.proofs.Sessions.{seats_it}
 use Rattle.group.proofs.group.Group.open_snapshot.Goals as goal
 
@@ -18,7 +18,7 @@ returns-clause-step g c =
     let mid = view c.learn-place.new.self in
     let k = g.K.MarkKind.kind in
     let p = c.args.partition in
-    let is = below_lem before.partitions p c.in_ok-partition.partition.number c.in_ok-partition.ensures in
+    let is = passed (ltb p before.partitions) c.in_ok-partition.partition.number p c.in_ok-partition.ensures in
     seats_it k before mid (view c.take_seat.new.self) c.args.session p c.in-Some.number (four c.stable-cut.result.entries)
     c.take_seat.result.seat c.take_seat.result.serial
     is.0 (sym c.if-not-has_session.ensures) (sym c.lowest_free.ensures ∙ c.in-Some.is) (length-map self.seats.places (option_map seat_state) ∙ self.seats.sized) (omega arith)

@@ -10,7 +10,8 @@ use Rattle.model.specs.Groups.{partition_of}
 use Rattle.model.specs.Calls.{put_worth}
 use Rattle.group.specs.Groups.{view}
 use Rattle.group.specs.Sessions.{session_state}
-use Rattle.group.proofs.Sessions.{puts, puts_not, left_keeps, writes}
+use Rattle.group.proofs.Views.{refused_same}
+use Rattle.group.proofs.Sessions.{puts, puts_not, writes}
 use Rattle.group.proofs.group.Group.put_value.Goals as goal
 
 pub returns-in_err-stamp : goal.returns-in_err-stamp
@@ -34,7 +35,7 @@ returns-in_err-stamp g c =
       step =
           ap (λ (r : Result Stamp Refusal). (stamp_number r, mid)) refused ∙ puts_not k before mid c.args.number c.args.key why x value t wrote
           ∙ ap (λ s. put_worth rule k before c.args.number c.args.key s (Ok value)) c.session_at-session.ensures;
-      keeps = subst (λ r. RefusalKeeps r before mid) (sym refused) (left_keeps before mid x.site p why t wrote);
+      keeps = subst (λ r. RefusalKeeps r before mid) (sym refused) (refused_same before mid x.site p why t wrote);
     }
 
 pub returns : goal.returns

@@ -4,8 +4,10 @@ use Rattle.fixed_vec.specs.Items.{items}
 use Rattle.marks.specs.CommonFloors.{common_floor, numbers}
 use Rattle.model.specs.Groups.{reported_at}
 use Rattle.servers.specs.Servers.{raised}
+use Rattle.model.specs.Calls.{has_server}
+use Rattle.group.specs.Layouts.{numbers_of}
 use Rattle.group.specs.Groups.{called_at, view}
-use Rattle.group.proofs.Views.{by_numbers, on_place, placed}
+use Rattle.group.proofs.Views.{by_numbers, on_place, passed}
 use Rattle.group.proofs.Rows.{rows_lem}
 use Rattle.group.proofs.group.Group.stabilise.Goals as goal
 
@@ -14,7 +16,7 @@ returns-clause-step g c =
     let before = view c.args.self.now in
     let place = c.in_ok-place.place in
     let k = g.K.MarkKind.kind in
-    let is = placed before.sites before.partitions c.args.site c.args.partition place c.in_ok-place.ensures in
+    let is = passed (has_server before c.args.site c.args.partition) (numbers_of place) (c.args.site, c.args.partition) c.in_ok-place.ensures in
     let rows =
     rows_lem _ (λ s. s.marks.reported) (before.server place.site.number) before.partitions (items c.rows_of-rows.result) (λ s row given. search rules) c.rows_of-rows.ensures
     in

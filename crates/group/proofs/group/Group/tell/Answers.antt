@@ -1,16 +1,14 @@
-use Rattle.std.proofs.Common.{◌∙◌, arith}
+use Rattle.std.proofs.Common.{arith}
 use Rattle.servers.specs.Servers.{told}
 use Rattle.group.specs.Groups.{view}
-use Rattle.group.proofs.Views.{rest_of, call_server, on_place, on_server_keeps}
+use Rattle.group.proofs.Views.{rest_of, on_server_lem, on_server_keeps}
 use Rattle.group.proofs.group.Group.tell.Goals as goal
 
 pub returns : goal.returns
 returns g c =
     let self = c.args.self.now in
-    let place = c.in_ok-place.place in
     let step =
-    call_server (rest_of self) self.servers place c.index.result c.index-self-index.result c.tell.new.self c.tell.result
-    (λ s. told s c.args.time) (omega arith) c.index.ensures c.tell.ensures.step c.tell.ensures.keeps
-    ∙ on_place (view self) c.args.site c.args.partition place (λ s. told s c.args.time) c.in_ok-place.ensures
+    on_server_lem (rest_of self) self.servers c.args.site c.args.partition c.in_ok-place.place c.index.result c.index-self-index.result c.tell.new.self c.tell.result
+    (λ s. told s c.args.time) c.in_ok-place.ensures (omega arith) c.index.ensures c.tell.ensures.step c.tell.ensures.keeps
     in
     record { step = step; keeps = on_server_keeps (view self) _ c.args.site c.args.partition c.tell.result (λ s. told s c.args.time) step }
