@@ -64,11 +64,10 @@ impl<C: ClockRule, K: MarkKind> Group<C, K> {
     fn open_seat(&self, ticket: &Ticket) -> Result<Seat, Refusal>
         ensures { seat_numbers result ≡ open_at ticket.now.serial (seat_at (view self.now) ticket.now.seat) }
     {
-        let held = self.seats.at(ticket.seat);
-        match held {
-            Some(seat) if seat.serial == ticket.serial => Ok(seat),
-            _ => Err(Refusal::NotOpen),
-        }
+        self.seats
+            .at(ticket.seat)
+            .filter(|seat| seat.serial == ticket.serial)
+            .ok_or(Refusal::NotOpen)
     }
 
     // The latest version of a key that the snapshot's cut covers, or none.

@@ -6,9 +6,3 @@ use Rattle.group.proofs.seats.Seats.set.Goals as goal
 
 pub returns-then-number-lt-SEAT_COUNT : goal.returns-then-number-lt-SEAT_COUNT
 returns-then-number-lt-SEAT_COUNT c = map-set (option_map seat_state) c.args.self.now.places c.args.number c.args.seat
-
-pub returns-else-number-lt-SEAT_COUNT : goal.returns-else-number-lt-SEAT_COUNT
-returns-else-number-lt-SEAT_COUNT c =
-    let self = c.args.self.now in
-    let past : length (seat_states self) ≤ c.args.number = omega (arith, self.sized, length-map self.places (option_map seat_state)) in
-    sym (set_past (seat_states self) c.args.number (option_map seat_state c.args.seat) past)
