@@ -64,6 +64,6 @@ impl<C: ClockRule, K: MarkKind> Group<C, K> {
             return Ok(None);
         };
         self.depend(session, &version);
-        Ok(Some(Shown::of(&version)))
+        Ok(Some(Shown::from(&version)))
     }
 }

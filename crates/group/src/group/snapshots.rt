@@ -86,7 +86,7 @@ impl<C: ClockRule, K: MarkKind> Group<C, K> {
             return Ok(None);
         };
         self.depend(seat.session, &version);
-        Ok(Some(Shown::of(&version)))
+        Ok(Some(Shown::from(&version)))
     }
 
     // The end of a snapshot. The ticket is taken in either case, done or refused.

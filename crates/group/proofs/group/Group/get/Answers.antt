@@ -34,10 +34,10 @@ returns g c =
     record {
       step =
           gets k (view c.args.self.now) mid (view c.depend.new.self) c.args.session c.args.key p (server_view c.server.result.now) (shown c.latest_visible.result)
-          (Ok (Some (shown_state c.of.result)))
+          (Ok (Some (shown_state c.from.result)))
           (sym c.if-not-has_session.ensures) c.partition_of-partition.ensures c.learn-place.ensures.state
           (c.server.ensures ∙ at_numbers mid c.learn-place.result (session_at (view c.args.self.now) c.args.session).site p c.learn-place.ensures.place) c.latest_visible.ensures.value
-          (ap (λ t. (Ok (Some t), view c.depend.new.self)) c.of.ensures ∙ ap (λ h. (Ok (Some (shown_of v)), h)) c.depend.ensures
+          (ap (λ t. (Ok (Some t), view c.depend.new.self)) c.from.ensures ∙ ap (λ h. (Ok (Some (shown_of v)), h)) c.depend.ensures
           ∙ ap (λ (o : Option Version). showing k mid c.args.session (shown o)) (sym c.in-Some.is));
       keeps = tt;
     }

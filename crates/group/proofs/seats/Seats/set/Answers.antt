@@ -1,7 +1,6 @@
-use Rattle.std.proofs.Common.{◌≤◌, length, sym, arith}
 use Rattle.std.specs.Option.{option_map}
-use Rattle.std.proofs.lemmas.List.{length-map, map-set, set_past}
-use Rattle.group.specs.Sessions.{seat_state, seat_states}
+use Rattle.std.proofs.lemmas.List.{map-set}
+use Rattle.group.specs.Sessions.{seat_state}
 use Rattle.group.proofs.seats.Seats.set.Goals as goal
 
 pub returns-then-number-lt-SEAT_COUNT : goal.returns-then-number-lt-SEAT_COUNT
