@@ -7,7 +7,7 @@ ghost use Rattle.model.specs.Calls.{asked};
 ghost use Rattle.model.specs.Events.{open_snapshot, read as Read, close as Close};
 ghost use Rattle.group.specs.Answers.{shown_numbers, ticket_state, ticket_numbers};
 ghost use Rattle.group.specs.Groups.{view};
-ghost use Rattle.group.specs.Sessions.{open_at, seat_numbers, seat_state};
+ghost use Rattle.group.specs.Sessions.{open_at, seat_numbers};
 
 use super::Group;
 use crate::place::Place;
