@@ -1,13 +1,17 @@
 -- The cuts of open snapshots, seat by seat.
-use Rattle.std.proofs.Common.{◌≡◌, ℕ, suc, ◌+◌, ◌<◌, ◌≤◌, Bool, true, false, cond, eqb, List, [], ◌∷◌, ◌++◌, length, get_or, drop, Some, None, Option, Result, sym, refl, ap, ◌∙◌, append_assoc, append-nil, arith}
-use Rattle.std.proofs.lemmas.List.{drop_all, drop_more}
+use Rattle.std.proofs.Common.{◌≡◌, ℕ, ◌+◌, ◌<◌, Bool, true, false, cond, eqb, List, [], ◌∷◌, ◌++◌, map, length, get_or, position, ltb, drop, Some, None, Option, Result, sym, refl, ap, ◌∙◌, append_assoc, arith}
+use Rattle.std.proofs.lemmas.Bool.{ltb-true}
+use Rattle.std.proofs.lemmas.List.{drop_more, get_or-map, length-map}
+use Rattle.std.specs.List.{position_or_len}
+use Rattle.std.specs.Option.{option_map}
 use Rattle.fixed_vec.specs.Items.{pushed}
 use Rattle.fixed_vec.specs.declared.fixed_vec.Full.{Full}
 use Rattle.stamps.specs.Rows.{Four, four}
 use Rattle.stamps.specs.declared.row.Row.{Row}
 use Rattle.marks.specs.CommonFloors.{numbers}
 use Rattle.model.specs.Groups.{GroupState, SeatState, cuts_of, lowest_free, session_at}
-use Rattle.group.specs.Sessions.{cut_in}
+use Rattle.group.specs.declared.seat.Seat.{Seat}
+use Rattle.group.specs.Sessions.{cut_in, free_seat, is_none, seat_state}
 use Rattle.group.proofs.Rows.{numbers_push, pushed_room}
 
 -- a seat with a cut of the site
@@ -48,26 +52,31 @@ pub cut_none : (g : GroupState) (site : ℕ) (seats : List (Option SeatState)) (
 cut_none g site seats i xs all here cut before =
     ap (λ t. numbers xs ++ t) (sym (ap (cuts_of g site) (drop_more seats i None here) ∙ cuts_none g site (get_or seats i None) (drop (i + 1) seats) cut)) ∙ before
 
--- after the last seat
-pub cut_last : (g : GroupState) (site : ℕ) (seats : List (Option SeatState)) (i : ℕ) (xs : List Row) (all : List Four)
-    → length seats ≤ i → numbers xs ++ cuts_of g site (drop i seats) ≡ all → numbers xs ≡ all
-cut_last g site seats i xs all past before =
-    sym (append-nil (numbers xs)) ∙ ap (λ t. numbers xs ++ t) (sym (ap (cuts_of g site) (drop_all i seats past))) ∙ before
+-- the first place with no snapshot is the lowest free seat
+first_empty : (xs : List (Option Seat)) → position_or_len is_none xs ≡ lowest_free (map (option_map seat_state) xs)
+first_empty [] = refl
+first_empty (None ∷ xs) = refl
+first_empty (Some x ∷ xs) = omega (arith, first_empty xs)
 
--- a seat that is free, and one that is not
-pub free_here : (seats : List (Option SeatState)) (i : ℕ) → i < length seats → get_or seats i None ≡ None → lowest_free seats ≡ i + lowest_free (drop i seats) → i ≡ lowest_free seats
-free_here seats i here free before =
-    let none : lowest_free (drop i seats) ≡ 0 = ap lowest_free (drop_more seats i None here ∙ ap (λ o. o ∷ drop (i + 1) seats) free) in
-    omega arith
+pub free_seat_lem : (xs : List (Option Seat)) → position is_none xs ≡ free_seat (map (option_map seat_state) xs)
+free_seat_lem xs =
+    let ys = map (option_map seat_state) xs in
+    ap (λ i. cond (ltb i (length xs)) (Some i) None) (first_empty xs)
+    ∙ ap (λ n. cond (ltb (lowest_free ys) n) (Some (lowest_free ys)) None) (sym (length-map xs (option_map seat_state)))
 
-pub free_past : (seats : List (Option SeatState)) (i : ℕ) (y : SeatState) → i < length seats → get_or seats i None ≡ Some y
-    → lowest_free seats ≡ i + lowest_free (drop i seats) → lowest_free seats ≡ (i + 1) + lowest_free (drop (i + 1) seats)
-free_past seats i y here taken before =
-    let one : lowest_free (drop i seats) ≡ suc (lowest_free (drop (i + 1) seats)) = ap lowest_free (drop_more seats i None here ∙ ap (λ o. o ∷ drop (i + 1) seats) taken) in
-    omega arith
+-- the seat that was found
+pub found_free : (ys : List (Option SeatState)) (n : ℕ) → free_seat ys ≡ Some n → (n ≡ lowest_free ys) × (n < length ys)
+found_free ys n e = by_test (ltb (lowest_free ys) (length ys)) refl e
+  where
+    by_test : (b : Bool) → ltb (lowest_free ys) (length ys) ≡ b → cond b (Some (lowest_free ys)) None ≡ Some n → (n ≡ lowest_free ys) × (n < length ys)
+    by_test true h f =
+        let same : n ≡ lowest_free ys = cc in
+        let below : lowest_free ys < length ys = ltb-true _ _ h in
+        (same, omega arith)
+    by_test false h f = cc
 
--- after the last seat
-pub free_none : (seats : List (Option SeatState)) (i : ℕ) → length seats ≤ i → lowest_free seats ≡ i + lowest_free (drop i seats) → i ≡ lowest_free seats
-free_none seats i past before =
-    let none : lowest_free (drop i seats) ≡ 0 = ap lowest_free (drop_all i seats past) in
-    omega arith
+-- the seat of a place in the array
+pub seat_of_place : (seats : List (Option SeatState)) (xs : List (Option Seat)) (i : ℕ) (x : Option Seat) → map (option_map seat_state) xs ≡ seats → x ≡ get_or xs i x → i < length xs
+    → get_or seats i None ≡ option_map seat_state x
+seat_of_place seats xs i x e is here =
+    ap (λ ys. get_or ys i None) (sym e) ∙ get_or-map (option_map seat_state) xs i x None here ∙ ap (option_map seat_state) (sym is)

@@ -1,5 +1,5 @@
 -- An entry that is delivered.
-use Rattle.std.proofs.Common.{◌≡◌, ℕ, true, cond, not, ◌&&◌, eqb, Some, Ok, Err, Option, Result, sym, ap, ◌∙◌, subst}
+use Rattle.std.proofs.Common.{◌≡◌, ℕ, true, cond, not, ◌&&◌, eqb, Some, Ok, Err, Option, Result, sym, ap, ◌∙◌}
 use Rattle.std.proofs.lemmas.Bool.{and_left, and_parts, cond-false, cond-true, eqb-false, ne_eqb, not-true}
 use Rattle.stamps.specs.declared.refusal.Refusal.{Refusal}
 use Rattle.stamps.specs.declared.refusal.Refusal.TheVariants.{NotInLayout}
@@ -7,6 +7,10 @@ use Rattle.servers.specs.Entries.{Sent}
 use Rattle.servers.specs.Outboxes.{next_for}
 use Rattle.servers.specs.Servers.{ServerState, handing, taking}
 use Rattle.model.specs.Groups.{GroupState, with_server}
+use Rattle.group.specs.declared.place.Place.{Place}
+use Rattle.group.specs.Groups.{called_at, server_at, with_server_at}
+use Rattle.group.specs.Layouts.{checked_line, has_line, line_numbers, numbers_of}
+use Rattle.group.proofs.Views.{by_numbers, passed}
 use Rattle.model.specs.Calls.{has_server, server_left, took_left, delivered}
 
 -- a server of another site is as it was
@@ -27,30 +31,52 @@ took g mid after from to partition (Err why, s) e f ne =
     let no : Ok tt ≡ Err why = ap first e in
     cc
 
--- there is a line, an entry waits, the receiver has taken it, and the sender has handed it over; the sites are given by
--- their numbers twice
-pub deliver_done : (g mid after : GroupState) (from to from' to' partition : ℕ) (r : Result (Unit {0}) Refusal) (next : Option Sent) (entry : Sent)
-    → from' ≡ from → to' ≡ to
-    → (has_server g from partition && (has_server g to partition && not (eqb from to))) ≡ true
-    → next ≡ next_for (g.server from' partition).waiting to' → next ≡ Some entry
-    → (r, mid) ≡ server_left g to' partition (taking (g.server to' partition) from' entry) → r ≡ Ok tt
-    → after ≡ with_server mid from' partition (handing (mid.server from' partition) to')
+-- the two servers of a line that a layout has
+lined : (sites partitions from to partition : ℕ) (sender taker : Place) → line_numbers (Ok (sender, taker)) ≡ checked_line sites partitions from to partition
+    → (has_line sites partitions from to partition ≡ true) × (numbers_of sender ≡ (from, partition)) × (numbers_of taker ≡ (to, partition))
+lined sites partitions from to partition sender taker e =
+    let p = passed (has_line sites partitions from to partition) (numbers_of sender, numbers_of taker) ((from, partition), (to, partition)) e in
+    let first : (ℕ × ℕ) × (ℕ × ℕ) → ℕ × ℕ = λ x. x.0 in
+    let second : (ℕ × ℕ) × (ℕ × ℕ) → ℕ × ℕ = λ x. x.1 in
+    (p.0, ap first p.1, ap second p.1)
+
+-- the sender's next entry for the taker, and what the taker has made of it, by numbers
+waiting : (g : GroupState) (from to partition : ℕ) (sender taker : Place) (next : Option Sent) → numbers_of sender ≡ (from, partition) → numbers_of taker ≡ (to, partition)
+    → next ≡ next_for (server_at g sender).waiting taker.site.number → next ≡ next_for (g.server from partition).waiting to
+waiting g from to partition sender taker next es et e =
+    e ∙ by_numbers (λ i n. next_for (g.server i n).waiting taker.site.number) from partition sender es ∙ by_numbers (λ i n. next_for (g.server from partition).waiting i) to partition taker et
+
+taken : (g : GroupState) (from to partition : ℕ) (sender taker : Place) (entry : Sent) → numbers_of sender ≡ (from, partition) → numbers_of taker ≡ (to, partition)
+    → called_at g taker (λ s. taking s sender.site.number entry) ≡ server_left g to partition (taking (g.server to partition) from entry)
+taken g from to partition sender taker entry es et =
+    by_numbers (λ i n. called_at g taker (λ s. taking s i entry)) from partition sender es
+    ∙ by_numbers (λ i n. server_left g i n (taking (g.server i n) from entry)) to partition taker et
+
+-- an entry waits, the taker has taken it, and the sender has handed it over
+pub deliver_done : (g mid after : GroupState) (from to partition : ℕ) (sender taker : Place) (r : Result (Unit {0}) Refusal) (next : Option Sent) (entry : Sent)
+    → line_numbers (Ok (sender, taker)) ≡ checked_line g.sites g.partitions from to partition
+    → next ≡ next_for (server_at g sender).waiting taker.site.number → next ≡ Some entry
+    → (r, mid) ≡ called_at g taker (λ s. taking s sender.site.number entry) → r ≡ Ok tt
+    → after ≡ with_server_at mid sender (handing (server_at mid sender) taker.site.number)
     → (Ok tt, after)
     ≡ cond (has_server g from partition && (has_server g to partition && not (eqb from to)))
     (delivered g from to partition (next_for (g.server from partition).waiting to))
     (Err NotInLayout, g)
-deliver_done g mid after from to from' to' partition r next entry ef et line waits some take ok hand =
-    let two = and_parts (has_server g from partition) _ line in
+deliver_done g mid after from to partition sender taker r next entry line waits some take ok hand =
+    let is = lined g.sites g.partitions from to partition sender taker line in
+    let two = and_parts (has_server g from partition) _ is.0 in
     let three = and_parts (has_server g to partition) (not (eqb from to)) two.1 in
     let ne : from ≡ to → ⊥ = eqb-false from to (not-true (eqb from to) three.1) in
-    let ne' : from' ≡ to' → ⊥ = λ e. ne (sym ef ∙ e ∙ et) in
-    let numbered : (Ok tt, after) ≡ delivered g from' to' partition (next_for (g.server from' partition).waiting to') =
-    took g mid after from' to' partition (taking (g.server to' partition) from' entry) (ap (λ t. (t, mid)) (sym ok) ∙ take) hand ne'
-    ∙ ap (delivered g from' to' partition) (sym some ∙ waits)
+    let took_it : (Ok tt, mid) ≡ server_left g to partition (taking (g.server to partition) from entry) =
+    ap (λ t. (t, mid)) (sym ok) ∙ take ∙ taken g from to partition sender taker entry is.1 is.2
     in
-    subst (λ x. (Ok tt, after) ≡ delivered g x to partition (next_for (g.server x partition).waiting to)) ef
-    (subst (λ y. (Ok tt, after) ≡ delivered g from' y partition (next_for (g.server from' partition).waiting y)) et numbered)
-    ∙ sym (cond-true _ _ (Err NotInLayout, g) line)
+    let handed : after ≡ with_server mid from partition (handing (mid.server from partition) to) =
+    hand ∙ by_numbers (λ i n. with_server mid i n (handing (mid.server i n) taker.site.number)) from partition sender is.1
+    ∙ by_numbers (λ i n. with_server mid from partition (handing (mid.server from partition) i)) to partition taker is.2
+    in
+    took g mid after from to partition (taking (g.server to partition) from entry) took_it handed ne
+    ∙ ap (delivered g from to partition) (sym some ∙ waiting g from to partition sender taker next is.1 is.2 waits)
+    ∙ sym (cond-true _ _ (Err NotInLayout, g) is.0)
 
 -- the receiver has refused the entry
 took_not : (g mid : GroupState) (from to partition : ℕ) (why : Refusal) (t : Result (Unit {0}) Refusal × ServerState)
@@ -61,32 +87,17 @@ took_not g mid from to partition why (Ok done, s) e =
     cc
 took_not g mid from to partition why (Err other, s) e = e
 
--- a refusal of a server leaves the group as it was
-pub refused_same : (g mid : GroupState) (site partition : ℕ) (why : Refusal) (t : Result (Unit {0}) Refusal × ServerState)
-    → (Err why, mid) ≡ server_left g site partition t → mid ≡ g
-refused_same g mid site partition why (Ok done, s) e =
-    let first : Result (Unit {0}) Refusal × GroupState → Result (Unit {0}) Refusal = λ x. x.0 in
-    let no : Err why ≡ Ok done = ap first e in
-    cc
-refused_same g mid site partition why (Err other, s) e =
-    let second : Result (Unit {0}) Refusal × GroupState → GroupState = λ x. x.1 in
-    ap second e
-
--- there is a line and an entry waits, and the receiver has refused it
-pub deliver_not : (g mid : GroupState) (from to from' to' partition : ℕ) (why : Refusal) (next : Option Sent) (entry : Sent)
-    → from' ≡ from → to' ≡ to
-    → (has_server g from partition && (has_server g to partition && not (eqb from to))) ≡ true
-    → next ≡ next_for (g.server from' partition).waiting to' → next ≡ Some entry
-    → (Err why, mid) ≡ server_left g to' partition (taking (g.server to' partition) from' entry)
+-- an entry waits, and the taker has refused it
+pub deliver_not : (g mid : GroupState) (from to partition : ℕ) (sender taker : Place) (why : Refusal) (next : Option Sent) (entry : Sent)
+    → line_numbers (Ok (sender, taker)) ≡ checked_line g.sites g.partitions from to partition
+    → next ≡ next_for (server_at g sender).waiting taker.site.number → next ≡ Some entry
+    → (Err why, mid) ≡ called_at g taker (λ s. taking s sender.site.number entry)
     → (Err why, mid)
     ≡ cond (has_server g from partition && (has_server g to partition && not (eqb from to)))
     (delivered g from to partition (next_for (g.server from partition).waiting to))
     (Err NotInLayout, g)
-deliver_not g mid from to from' to' partition why next entry ef et line waits some take =
-    let numbered : (Err why, mid) ≡ delivered g from' to' partition (next_for (g.server from' partition).waiting to') =
-    took_not g mid from' to' partition why (taking (g.server to' partition) from' entry) take
-    ∙ ap (delivered g from' to' partition) (sym some ∙ waits)
-    in
-    subst (λ x. (Err why, mid) ≡ delivered g x to partition (next_for (g.server x partition).waiting to)) ef
-    (subst (λ y. (Err why, mid) ≡ delivered g from' y partition (next_for (g.server from' partition).waiting y)) et numbered)
-    ∙ sym (cond-true _ _ (Err NotInLayout, g) line)
+deliver_not g mid from to partition sender taker why next entry line waits some take =
+    let is = lined g.sites g.partitions from to partition sender taker line in
+    took_not g mid from to partition why (taking (g.server to partition) from entry) (take ∙ taken g from to partition sender taker entry is.1 is.2)
+    ∙ ap (delivered g from to partition) (sym some ∙ waiting g from to partition sender taker next is.1 is.2 waits)
+    ∙ sym (cond-true _ _ (Err NotInLayout, g) is.0)

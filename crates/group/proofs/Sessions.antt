@@ -1,5 +1,5 @@
 -- What sessions do to a group.
-use Rattle.std.proofs.Common.{◌≡◌, ℕ, suc, ◌-◌, ◌^◌, ◌<◌, Bool, true, false, cond, ◌&&◌, eqb, ltb, leb, length, Some, None, Ok, Err, Option, Result, sym, refl, ap, ◌∙◌}
+use Rattle.std.proofs.Common.{◌≡◌, ℕ, suc, ◌-◌, ◌^◌, ◌<◌, Bool, true, false, cond, ◌&&◌, eqb, ltb, leb, length, Some, None, Ok, Err, Option, Result, sym, refl, ap, ◌∙◌, subst}
 use Rattle.std.proofs.lemmas.Bool.{and_from, cond-false, cond-true, eq-eqb, lt-leb}
 use Rattle.stamps.specs.declared.refusal.Refusal.{Refusal}
 use Rattle.stamps.specs.declared.refusal.Refusal.TheVariants.{NotInLayout, NoSession, End, NoneFree, NotOpen}
@@ -11,7 +11,8 @@ use Rattle.servers.specs.Versions.{VersionState, full_mark}
 use Rattle.model.specs.Events.{Shown, Ticket}
 use Rattle.model.specs.Groups.{GroupState, SessionState, SeatState, lowest_free, partition_of, session_at, with_seat, with_server, with_session}
 use Rattle.model.specs.Calls.{server_left, on_session, on_seat_of, depending, put_left, showing, hearing, learning, snapshot_opened_at}
-use Rattle.group.specs.Sessions.{open_at}
+use Rattle.group.specs.Sessions.{free_seat, open_at}
+use Rattle.group.proofs.Cuts.{found_free}
 
 -- the server that was replaced
 server_here : (g : GroupState) (site partition : ℕ) (s : ServerState) → (with_server g site partition s).server site partition ≡ s
@@ -99,15 +100,6 @@ puts_not k g mid i key why x value (Ok given, s) wrote =
     let no : ◌≡◌ {A = Result ℕ Refusal} (Err why) (Ok given) = ap first wrote in
     cc
 
-pub left_keeps : (g mid : GroupState) (site partition : ℕ) (why : Refusal) (t : Result ℕ Refusal × ServerState) → (Err why, mid) ≡ server_left g site partition t → mid ≡ g
-left_keeps g mid site partition why (Err other, s) wrote =
-    let second : Result ℕ Refusal × GroupState → GroupState = λ y. y.1 in
-    ap second wrote
-left_keeps g mid site partition why (Ok given, s) wrote =
-    let first : Result ℕ Refusal × GroupState → Result ℕ Refusal = λ y. y.0 in
-    let no : ◌≡◌ {A = Result ℕ Refusal} (Err why) (Ok given) = ap first wrote in
-    cc
-
 -- a write, by other terms for the partition and the marks
 pub writes : (rule : Rule) (k : Kind) (g mid : GroupState) (site key p p' : ℕ) (value : Worth) (a a' b b' : Four) (r : Result ℕ Refusal)
     → p ≡ p' → a ≡ a' → b ≡ b'
@@ -132,17 +124,18 @@ ticket seat serial = record { seat = seat; serial = serial }
 
 -- a snapshot is opened at the lowest free seat
 pub seats_it : (k : Kind) (g mid after : GroupState) (i partition seat : ℕ) (cut : Four) (ticket_seat ticket_serial : ℕ)
-    → ltb partition g.partitions ≡ true → ltb i (length g.sessions) ≡ true → seat ≡ lowest_free g.seats → seat < 4 → g.next_serial < 2 ^ 32 - 1
+    → ltb partition g.partitions ≡ true → ltb i (length g.sessions) ≡ true → free_seat g.seats ≡ Some seat → length g.seats ≡ 4 → g.next_serial < 2 ^ 32 - 1
     → mid ≡ learning k g i (session_at g i) partition → cut ≡ (mid.server (session_at g i).site partition).marks.stable
     → ticket_seat ≡ seat → ticket_serial ≡ mid.next_serial
     → after ≡ with_seat mid seat (Some (record { session = i; serial = mid.next_serial; cut = cut })) (suc mid.next_serial)
     → (Ok (ticket ticket_seat ticket_serial), after)
     ≡ cond (ltb partition g.partitions) (on_session g i (λ x. snapshot_opened_at k g i x partition (lowest_free g.seats))) (Err NotInLayout, g)
-seats_it k g mid after i partition seat cut ticket_seat ticket_serial has session lowest free serials learn stable seated serial sets =
+seats_it k g mid after i partition seat cut ticket_seat ticket_serial has session free four_seats serials learn stable seated serial sets =
     let x = session_at g i in
     let s = hearing k g x partition in
     let known = learning k g i x partition in
     let same : cut ≡ s.marks.stable = stable ∙ ap (λ (t : ServerState). t.marks.stable) (learnt_server k g mid i partition x learn) in
+    let found = found_free g.seats seat free in
     let done : Result Ticket Refusal × GroupState =
     (Ok (ticket seat g.next_serial), with_seat known seat (Some (record { session = i; serial = g.next_serial; cut = s.marks.stable })) (suc g.next_serial))
     in
@@ -150,7 +143,7 @@ seats_it k g mid after i partition seat cut ticket_seat ticket_serial has sessio
     ∙ ap (λ (h : GroupState). (Ok (ticket seat h.next_serial), with_seat h seat (Some (record { session = i; serial = h.next_serial; cut = cut })) (suc h.next_serial))) learn
     ∙ ap (λ m. (Ok (ticket seat g.next_serial), with_seat known seat (Some (record { session = i; serial = g.next_serial; cut = m })) (suc g.next_serial))) same
     ∙ sym (cond-false (leb (2 ^ 32 - 1) g.next_serial) (Err End, g) done (lt-leb (2 ^ 32 - 1) g.next_serial serials))
-    ∙ sym (cond-false (leb 4 seat) (Err NoneFree, g) _ (lt-leb 4 seat free))
-    ∙ ap (snapshot_opened_at k g i x partition) lowest
+    ∙ sym (cond-false (leb 4 seat) (Err NoneFree, g) _ (lt-leb 4 seat (subst (λ n. seat < n) four_seats found.1)))
+    ∙ ap (snapshot_opened_at k g i x partition) found.0
     ∙ sym (cond-true (ltb i (length g.sessions)) _ (Err NoSession, g) session)
     ∙ sym (cond-true (ltb partition g.partitions) _ (Err NotInLayout, g) has)

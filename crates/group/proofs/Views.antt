@@ -1,8 +1,8 @@
 -- How the array of servers shows in the group's state.
-use Rattle.std.proofs.Common.{◌≡◌, ℕ, suc, ◌<◌, Bool, true, false, cond, ◌&&◌, eqb, ltb, List, [], ◌∷◌, map, length, get_or, set, Ok, Err, Option, Result, sym, refl, ap, ◌∙◌, subst, arith}
+use Rattle.std.proofs.Common.{◌≡◌, ℕ, suc, ◌<◌, Bool, true, false, cond, ◌&&◌, eqb, ltb, List, [], ◌∷◌, map, length, get_or, set, take, drop, ◌+◌, ◌-◌, ◌*◌, ◌≤◌, Ok, Err, Option, Result, sym, refl, ap, ◌∙◌, subst, arith}
 use mathlib.Core.Path.{fun_ext}
-use Rattle.std.proofs.lemmas.List.{get_or-map, get_or-set_same, get_or-set_other, length-map, map-set, set-get_or}
-use Rattle.std.proofs.lemmas.Bool.{and_left, and_parts, and_right, cases_eq, cond-false, cond-true, le-ltb, ltb-true}
+use Rattle.std.proofs.lemmas.List.{get_or-drop, get_or-map, get_or-set_same, get_or-set_other, get_or-take, length-drop, length-map, length-take, map-set, set-get_or}
+use Rattle.std.proofs.lemmas.Bool.{and_left, and_right, cases_eq, cond-false, cond-true, le-ltb}
 use Rattle.std.proofs.lemmas.Bool.Decides.{nat_tests}
 use Rattle.stamps.specs.declared.refusal.Refusal.{Refusal}
 use Rattle.stamps.specs.declared.refusal.Refusal.TheVariants.{NotInLayout}
@@ -11,15 +11,17 @@ use Rattle.stamps.specs.Checks.{stamp_number}
 use Rattle.stamps.specs.Refusals.{RefusalKeeps}
 use Rattle.servers.proofs.RowEntries.{by_site}
 use Rattle.servers.specs.Servers.{ServerState, fresh, view as server_view}
-use Rattle.model.specs.Groups.{GroupState, SessionState, SeatState, with_server}
+use Rattle.model.specs.Groups.{GroupState, SessionState, SeatState}
 use Rattle.model.specs.Calls.{has_server, server_left, on_server}
-use Rattle.group.specs.declared.layout.Layout.{Layout}
 use Rattle.servers.specs.declared.server.Server.{Server}
 use Rattle.group.specs.declared.group.Group.{Group}
-use Rattle.group.specs.Groups.{at, place_of, view}
+use Rattle.group.specs.declared.place.Place.{Place}
+use Rattle.group.specs.Groups.{at, called_at, server_at, view, with_server_at}
+use Rattle.group.specs.Layouts.{checked_place, numbers_of, place_numbers}
+use Rattle.group.specs.Places.{place_of}
 
 -- one server replaced in the array is that server replaced in the state
-pub at_set : (sites : ℕ) (xs : List ServerState) (site partition : ℕ) (s : ServerState) → length xs ≡ 16 → site < 4 → partition < 4
+at_set : (sites : ℕ) (xs : List ServerState) (site partition : ℕ) (s : ServerState) → length xs ≡ 16 → site < 4 → partition < 4
     → at sites (set xs (place_of site partition) s) ≡ (λ i n. cond (eqb i site && eqb n partition) s (at sites xs i n))
 at_set sites xs site partition s len ls lp =
     fun_ext λ i. fun_ext λ n.
@@ -48,15 +50,6 @@ rest_of g =
     let s = view g in
     record { sites = s.sites; partitions = s.partitions; sessions = s.sessions; seats = s.seats; next = s.next_serial }
 
--- one server replaced in the array is that server replaced in the group
-pub set_server : {C K Mark : Type 0} (rest : Rest) (servers : List (Server C K Mark)) (site partition p : ℕ) (new : Server C K Mark)
-    → length servers ≡ 16 → site < 4 → partition < 4 → p ≡ place_of site partition
-    → state_with rest (at rest.sites (map server_view (set servers p new))) ≡ with_server (state_with rest (at rest.sites (map server_view servers))) site partition (server_view new)
-set_server rest servers site partition p new len ls lp e =
-    let xs = map server_view servers in
-    ap (λ t. state_with rest (at rest.sites t)) (map-set server_view servers p new ∙ ap (λ q. set xs q (server_view new)) e)
-    ∙ ap (state_with rest) (at_set rest.sites xs site partition (server_view new) (length-map servers server_view ∙ len) ls lp)
-
 -- the server that stands in the array
 pub at_place : {C K Mark : Type 0} (sites : ℕ) (servers : List (Server C K Mark)) (site partition p : ℕ) (d : Server C K Mark)
     → length servers ≡ 16 → site < 4 → partition < 4
@@ -65,61 +58,109 @@ at_place sites servers site partition p d len ls lp e =
     let m = get_or-map server_view servers p d (fresh site sites) (omega arith) in
     grind (arith, nat_tests, m)
 
--- one server changed in the array is that server changed in the group
-pub change_server_lem : {C K Mark : Type 0} (rest : Rest) (servers : List (Server C K Mark)) (site partition p : ℕ) (d new : Server C K Mark) (change : ServerState → ServerState)
-    → length servers ≡ 16 → site < 4 → partition < 4 → p ≡ place_of site partition → server_view new ≡ change (server_view (get_or servers p d))
-    → state_with rest (at rest.sites (map server_view (set servers p new)))
-    ≡ with_server (state_with rest (at rest.sites (map server_view servers))) site partition (change (at rest.sites (map server_view servers) site partition))
-change_server_lem rest servers site partition p d new change len ls lp e step =
-    let g = state_with rest (at rest.sites (map server_view servers)) in
-    set_server rest servers site partition p new len ls lp e
-    ∙ ap (λ s. with_server g site partition s) (step ∙ ap change (sym (at_place rest.sites servers site partition p d len ls lp e)))
+-- the servers of a site stand side by side
+pub quarter : {C K Mark : Type 0} (sites : ℕ) (servers : List (Server C K Mark)) (site count first some : ℕ)
+    → length servers ≡ 16 → site < 4 → count ≤ 4 → first ≡ site * 4 → some ≡ count
+    → (length (take some (drop first servers)) ≡ count)
+    × ((n : ℕ) (d : Server C K Mark) → n < length (take some (drop first servers))
+    → server_view (get_or (take some (drop first servers)) n d) ≡ at sites (map server_view servers) site n)
+quarter sites servers site count first some len ls few ef es =
+    let rest = drop first servers in
+    let left : length rest ≡ 16 - first = omega (arith, length-drop first servers) in
+    let all : length (take some rest) ≡ count = omega (arith, length-take some rest) in (
+      all,
+      λ n d here.
+          let below : n < some = omega arith in
+          ap server_view (get_or-take some rest n d below ∙ get_or-drop first servers n d)
+          ∙ sym (at_place sites servers site n (first + n) d len ls (omega arith) (omega arith)),
+    )
 
--- a server of the layout is one of four by four
-pub in_array : (layout : Layout) (site partition : ℕ) → (ltb site layout.sites.number && ltb partition layout.partitions) ≡ true → (site < 4) × (partition < 4)
-in_array layout site partition has =
-    let parts = and_parts _ _ has in
-    let ls = ltb-true site layout.sites.number parts.0 in
-    let lp = ltb-true partition layout.partitions parts.1 in
-    (omega arith, omega arith)
+-- one server changed in the array is that server changed in the group
+pub change_server_lem : {C K Mark : Type 0} (rest : Rest) (servers : List (Server C K Mark)) (place : Place) (p : ℕ) (d new : Server C K Mark) (change : ServerState → ServerState)
+    → length servers ≡ 16 → p ≡ place_of place.site.number place.partition.number → server_view new ≡ change (server_view (get_or servers p d))
+    → (let g = state_with rest (at rest.sites (map server_view servers)) in
+    state_with rest (at rest.sites (map server_view (set servers p new))) ≡ with_server_at g place (change (server_at g place)))
+change_server_lem rest servers place p d new change len e step =
+    let xs = map server_view servers in
+    let s = server_view new in
+    let g = state_with rest (at rest.sites xs) in
+    ap (λ t. state_with rest (at rest.sites t)) (map-set server_view servers p new ∙ ap (λ q. set xs q s) e)
+    ∙ ap (state_with rest) (at_set rest.sites xs place.site.number place.partition.number s (length-map servers server_view ∙ len) place.site.below place.partition.below)
+    ∙ ap (λ t. with_server_at g place t) (step ∙ ap change (sym (at_place rest.sites servers place.site.number place.partition.number p d len place.site.below place.partition.below e)))
 
 -- a server's answer, and the group with that server as it was left, are the group's answer and state
-pub left_server : {A : Type 0} (rest : Rest) (xs : List ServerState) (site partition : ℕ) (r : Result A Refusal) (s : ServerState)
-    → length xs ≡ 16 → site < 4 → partition < 4
-    → RefusalKeeps r (at rest.sites xs site partition) s
-    → (r, state_with rest (at rest.sites (set xs (place_of site partition) s))) ≡ server_left (state_with rest (at rest.sites xs)) site partition (r, s)
-left_server rest xs site partition (Ok x) s len ls lp keeps = ap (λ t. (Ok x, state_with rest t)) (at_set rest.sites xs site partition s len ls lp)
-left_server rest xs site partition (Err why) s len ls lp keeps = ap (λ t. (Err why, state_with rest t)) (at_same rest.sites xs site partition s ls lp keeps)
+left_server : {A : Type 0} (rest : Rest) (xs : List ServerState) (place : Place) (r : Result A Refusal) (s : ServerState)
+    → length xs ≡ 16 → RefusalKeeps r (at rest.sites xs place.site.number place.partition.number) s
+    → (r, state_with rest (at rest.sites (set xs (place_of place.site.number place.partition.number) s)))
+    ≡ server_left (state_with rest (at rest.sites xs)) place.site.number place.partition.number (r, s)
+left_server rest xs place (Ok x) s len keeps =
+    ap (λ t. (Ok x, state_with rest t)) (at_set rest.sites xs place.site.number place.partition.number s len place.site.below place.partition.below)
+left_server rest xs place (Err why) s len keeps =
+    ap (λ t. (Err why, state_with rest t)) (at_same rest.sites xs place.site.number place.partition.number s place.site.below place.partition.below keeps)
 
 -- a call of the server at p, as the group's answer and state
-pub call_server : {C K Mark A : Type 0} (rest : Rest) (servers : List (Server C K Mark)) (site partition p : ℕ) (d new : Server C K Mark) (r : Result A Refusal)
+pub call_server : {C K Mark A : Type 0} (rest : Rest) (servers : List (Server C K Mark)) (place : Place) (p : ℕ) (d new : Server C K Mark) (r : Result A Refusal)
     (act : ServerState → Result A Refusal × ServerState)
-    → length servers ≡ 16 → site < 4 → partition < 4 → p ≡ place_of site partition
+    → length servers ≡ 16 → p ≡ place_of place.site.number place.partition.number
     → (r, server_view new) ≡ act (server_view (get_or servers p d)) → RefusalKeeps r (server_view (get_or servers p d)) (server_view new)
-    → (r, state_with rest (at rest.sites (map server_view (set servers p new))))
-    ≡ server_left (state_with rest (at rest.sites (map server_view servers))) site partition (act (at rest.sites (map server_view servers) site partition))
-call_server rest servers site partition p d new r act len ls lp e step keeps =
+    → (r, state_with rest (at rest.sites (map server_view (set servers p new)))) ≡ called_at (state_with rest (at rest.sites (map server_view servers))) place act
+call_server rest servers place p d new r act len e step keeps =
     let sites = rest.sites in
     let xs = map server_view servers in
-    let there = at_place sites servers site partition p d len ls lp e in
+    let there = at_place sites servers place.site.number place.partition.number p d len place.site.below place.partition.below e in
     ap (λ t. (r, state_with rest (at sites t))) (map-set server_view servers p new ∙ ap (λ q. set xs q (server_view new)) e)
-    ∙ left_server rest xs site partition r (server_view new) (length-map servers server_view ∙ len) ls lp (subst (λ s. RefusalKeeps r s (server_view new)) (sym there) keeps)
-    ∙ ap (server_left (state_with rest (at sites xs)) site partition) (step ∙ ap act (sym there))
+    ∙ left_server rest xs place r (server_view new) (length-map servers server_view ∙ len) (subst (λ s. RefusalKeeps r s (server_view new)) (sym there) keeps)
+    ∙ ap (server_left (state_with rest (at sites xs)) place.site.number place.partition.number) (step ∙ ap act (sym there))
+
+-- what a check of a layout has let through
+pub passed : {A : Type 0} (b : Bool) (found given : A) → ◌≡◌ {A = Result A Refusal} (Ok found) (cond b (Ok given) (Err NotInLayout)) → (b ≡ true) × (found ≡ given)
+passed true found given e = (refl, cc)
+passed false found given e = cc
+
+-- a server by the numbers of its place
+pub by_numbers : {X : Type 0} (f : ℕ → ℕ → X) (site partition : ℕ) (place : Place) → numbers_of place ≡ (site, partition) → f place.site.number place.partition.number ≡ f site partition
+by_numbers f site partition place e = ap (λ (x : ℕ × ℕ). f x.0 x.1) e
+
+pub at_numbers : (g : GroupState) (place : Place) (site partition : ℕ) → (place.site.number ≡ site) × (place.partition.number ≡ partition) → server_at g place ≡ g.server site partition
+at_numbers g place site partition e = ap (λ i. g.server i place.partition.number) e.0 ∙ ap (λ n. g.server site n) e.1
+
+-- a call of the server that a layout has
+pub on_place : {A : Type 0} (g : GroupState) (site partition : ℕ) (place : Place) (act : ServerState → Result A Refusal × ServerState)
+    → place_numbers (Ok place) ≡ checked_place g.sites g.partitions site partition → called_at g place act ≡ on_server g site partition act
+on_place g site partition place act e =
+    let p = passed (has_server g site partition) (numbers_of place) (site, partition) e in
+    by_numbers (λ i n. server_left g i n (act (g.server i n))) site partition place p.1
+    ∙ sym (cond-true (has_server g site partition) (server_left g site partition (act (g.server site partition))) (Err NotInLayout, g) p.0)
+
+-- a call of a server that it lacks
+pub on_no_place : {A : Type 0} (g : GroupState) (site partition : ℕ) (why : Refusal) (act : ServerState → Result A Refusal × ServerState)
+    → place_numbers (Err why) ≡ checked_place g.sites g.partitions site partition → (Err why, g) ≡ on_server g site partition act
+on_no_place {A} g site partition why act e = by_test (has_server g site partition) e
+  where
+    by_test : (b : Bool) → ◌≡◌ {A = Result (ℕ × ℕ) Refusal} (Err why) (cond b (Ok (site, partition)) (Err NotInLayout))
+        → (Err why, g) ≡ cond {A = Result A Refusal × GroupState} b (server_left g site partition (act (g.server site partition))) (Err NotInLayout, g)
+    by_test true h = cc
+    by_test false h = let same : why ≡ NotInLayout = cc in ap (λ w. (Err w, g)) same
 
 -- a call of the server at p, as the call of the group
-pub on_server_lem : {C K Mark A : Type 0} (layout : Layout) (rest : Rest) (servers : List (Server C K Mark)) (site partition p : ℕ) (d new : Server C K Mark) (r : Result A Refusal)
+pub on_server_lem : {C K Mark A : Type 0} (rest : Rest) (servers : List (Server C K Mark)) (site partition : ℕ) (place : Place) (p : ℕ) (d new : Server C K Mark) (r : Result A Refusal)
     (act : ServerState → Result A Refusal × ServerState)
-    → rest.sites ≡ layout.sites.number → rest.partitions ≡ layout.partitions
-    → length servers ≡ 16 → (ltb site layout.sites.number && ltb partition layout.partitions) ≡ true
-    → p ≡ place_of site partition
+    → place_numbers (Ok place) ≡ checked_place rest.sites rest.partitions site partition → length servers ≡ 16 → p ≡ place_of place.site.number place.partition.number
     → (r, server_view new) ≡ act (server_view (get_or servers p d)) → RefusalKeeps r (server_view (get_or servers p d)) (server_view new)
     → (r, state_with rest (at rest.sites (map server_view (set servers p new)))) ≡ on_server (state_with rest (at rest.sites (map server_view servers))) site partition act
-on_server_lem layout rest servers site partition p d new r act es ep len has e step keeps =
-    let g = state_with rest (at rest.sites (map server_view servers)) in
-    let l = in_array layout site partition has in
-    let has' : has_server g site partition ≡ true = rw (es, ep) has in
-    call_server rest servers site partition p d new r act len l.0 l.1 e step keeps
-    ∙ sym (cond-true _ (server_left g site partition (act (g.server site partition))) (Err NotInLayout, g) has')
+on_server_lem rest servers site partition place p d new r act found len e step keeps =
+    call_server rest servers place p d new r act len e step keeps ∙ on_place (state_with rest (at rest.sites (map server_view servers))) site partition place act found
+
+-- a refusal of a server leaves the group as it was
+pub refused_same : {A : Type 0} (g mid : GroupState) (site partition : ℕ) (why : Refusal) (t : Result A Refusal × ServerState)
+    → (Err why, mid) ≡ server_left g site partition t → mid ≡ g
+refused_same {A} g mid site partition why (Err other, s) e =
+    let second : Result A Refusal × GroupState → GroupState = λ x. x.1 in
+    ap second e
+refused_same {A} g mid site partition why (Ok done, s) e =
+    let first : Result A Refusal × GroupState → Result A Refusal = λ x. x.0 in
+    let no : Err why ≡ Ok done = ap first e in
+    cc
 
 -- a refusal leaves the group as it was
 pub on_server_keeps : {A : Type 0} (g after : GroupState) (site partition : ℕ) (r : Result A Refusal) (act : ServerState → Result A Refusal × ServerState)

@@ -1,18 +1,19 @@
 -- A group in plain numbers.
-use Rattle.std.specs.Prelude.{ℕ, ◌+◌, ◌*◌, cond, ◌&&◌, List, map, nat_lt, slice_index_or}
+use Rattle.std.specs.Prelude.{◌≡◌, ℕ, zero, suc, ◌<◌, cond, ◌&&◌, List, [], ◌∷◌, ◌++◌, map, length, Result, nat_lt, slice_index_or}
 use Rattle.fixed_vec.specs.Items.{items}
 use Rattle.servers.specs.Servers.{ServerState, fresh, view as server_view}
+use Rattle.servers.specs.declared.server.Server.{Server}
 use Rattle.servers.specs.Versions.{VersionState, full_mark}
 use Rattle.stamps.specs.Rows.{join}
+use Rattle.stamps.specs.declared.row.Row.{Row}
+use Rattle.stamps.specs.declared.refusal.Refusal.{Refusal}
 use Rattle.marks.specs.Kinds.{Kind}
-use Rattle.model.specs.Groups.{GroupState, session_at, with_session}
-use Rattle.model.specs.Calls.{depending}
+use Rattle.model.specs.Groups.{GroupState, session_at, with_server, with_session}
+use Rattle.model.specs.Calls.{depending, server_left}
 use Rattle.group.specs.Sessions.{session_state, seat_states}
 use Rattle.group.specs.declared.group.Group.{Group}
-
--- servers stand site by site, four to a site
-abbrev pub place_of : ℕ → ℕ → ℕ
-place_of site partition = site * 4 + partition
+use Rattle.group.specs.declared.place.Place.{Place}
+use Rattle.group.specs.Places.{place_of}
 
 -- the server of a site and a partition; past the array, a server as it is made
 abbrev pub at : ℕ → List ServerState → ℕ → ℕ → ServerState
@@ -29,6 +30,31 @@ view g =
       seats = seat_states g.seats;
       next_serial = g.next_serial;
     }
+
+-- the server at a place
+abbrev pub server_at : GroupState → Place → ServerState
+server_at g place = g.server place.site.number place.partition.number
+
+-- the group with another server at a place
+abbrev pub with_server_at : GroupState → Place → ServerState → GroupState
+with_server_at g place s = with_server g place.site.number place.partition.number s
+
+-- what a call of the server at a place answers, and the group after it
+abbrev pub called_at : {A : Type 0} → GroupState → Place → (ServerState → Result A Refusal × ServerState) → Result A Refusal × GroupState
+called_at g place act = server_left g place.site.number place.partition.number (act (server_at g place))
+
+-- the servers of a site, by partition
+abbrev pub ServersOf : {C K Mark : Type 0} → Group C K Mark → ℕ → List (Server C K Mark) → Type 0
+ServersOf g site servers =
+    (length servers ≡ g.layout.partitions)
+    × ((n : ℕ) (d : _) → n < length servers → server_view (slice_index_or servers n d) ≡ (view g).server site n)
+
+-- a row for each of the first servers, as a function gives it
+abbrev pub RowsOf : {C K Mark : Type 0} → (Server C K Mark → Row → Type 0) → (ℕ → ServerState) → ℕ → List Row → Type 0
+RowsOf gives server zero rows = rows ≡ []
+RowsOf {C} {K} {Mark} gives server (suc n) rows =
+    (before : List Row) × (s : Server C K Mark) × (row : Row)
+    × (rows ≡ before ++ row ∷ []) × RowsOf gives server n before × (server_view s ≡ server n) × gives s row
 
 -- a session depends on a version from then on
 abbrev pub depending_on : Kind → GroupState → ℕ → VersionState → GroupState

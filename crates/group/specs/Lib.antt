@@ -1,3 +1,4 @@
+pub mod Places
 pub mod Layouts
 pub mod Sessions
 pub mod Answers

@@ -10,6 +10,7 @@ use stamps::clock_rule::ClockRule;
 pub const MOST_SESSIONS: usize = 8;
 
 // The servers stand site by site, four to a site. Those outside the layout are never used.
+// One array, as a call of an element of an array of arrays gets no proof where the element has ghost fields.
 #[derive(Drop)]
 pub struct Group<C: ClockRule, K: MarkKind> {
     layout: Layout,
@@ -24,7 +25,6 @@ mod delivery;
 mod entries;
 mod makes;
 mod parts;
-mod places;
 mod rows;
 mod sessions;
 mod snapshots;

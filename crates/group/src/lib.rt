@@ -3,6 +3,8 @@
 
 pub mod group;
 pub mod layout;
+mod partition;
+mod place;
 mod seat;
 mod seats;
 mod session;

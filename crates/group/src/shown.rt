@@ -17,10 +17,10 @@ pub struct Shown {
     pub source: Site,
 }
 
-impl Shown {
-    pub(crate) fn of(version: &Version) -> Shown
-        ensures { shown_state result ≡ shown_of (plain version.now) }
-    {
+impl From<&Version> for Shown {
+    ghost from_gives = { λ version shown. shown_state shown ≡ shown_of (plain version.now) };
+
+    fn from(version: &Version) -> Shown {
         Shown {
             value: version.value(),
             stamp: version.stamp(),

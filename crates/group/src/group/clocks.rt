@@ -7,7 +7,6 @@ ghost use Rattle.model.specs.Events.{tell as Tell, heartbeat as Heartbeat, lead 
 ghost use Rattle.group.specs.Groups.{view};
 
 use super::Group;
-use super::places::place;
 use marks::mark_kind::MarkKind;
 use stamps::clock_rule::ClockRule;
 use stamps::refusal::Refusal;
@@ -19,10 +18,8 @@ impl<C: ClockRule, K: MarkKind> Group<C, K> {
         ensures step { (result, view self.new) ≡ asked C.ClockRule.answer K.MarkKind.kind (view self.old) (Tell site partition time) }
         ensures keeps { RefusalKeeps result (view self.old) (view self.new) }
     {
-        if !self.layout.has_server(site, partition) {
-            return Err(Refusal::NotInLayout);
-        }
-        self.servers[place(site, partition)].tell(time)
+        let place = self.layout.place(site, partition)?;
+        self.servers[place.index()].tell(time)
     }
 
     // A new stamp of a server for the other sites.
@@ -30,19 +27,15 @@ impl<C: ClockRule, K: MarkKind> Group<C, K> {
         ensures step { (stamp_number result, view self.new) ≡ asked C.ClockRule.answer K.MarkKind.kind (view self.old) (Heartbeat site partition) }
         ensures keeps { RefusalKeeps result (view self.old) (view self.new) }
     {
-        if !self.layout.has_server(site, partition) {
-            return Err(Refusal::NotInLayout);
-        }
-        self.servers[place(site, partition)].heartbeat()
+        let place = self.layout.place(site, partition)?;
+        self.servers[place.index()].heartbeat()
     }
 
     // How far a server's last stamp is ahead of its reading.
     pub fn lead(&self, site: u8, partition: u8) -> Result<i64, Refusal>
         ensures { (result, view self.now) ≡ asked C.ClockRule.answer K.MarkKind.kind (view self.now) (Lead site partition) }
     {
-        if !self.layout.has_server(site, partition) {
-            return Err(Refusal::NotInLayout);
-        }
-        Ok(self.servers[place(site, partition)].lead())
+        let place = self.layout.place(site, partition)?;
+        Ok(self.server(place).lead())
     }
 }

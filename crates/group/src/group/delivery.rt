@@ -6,7 +6,6 @@ ghost use Rattle.model.specs.Events.{deliver as Deliver};
 ghost use Rattle.group.specs.Groups.{view};
 
 use super::Group;
-use super::places::site_of;
 use marks::mark_kind::MarkKind;
 use stamps::clock_rule::ClockRule;
 use stamps::refusal::Refusal;
@@ -17,15 +16,12 @@ impl<C: ClockRule, K: MarkKind> Group<C, K> {
         ensures step { (result, view self.new) ≡ asked C.ClockRule.answer K.MarkKind.kind (view self.old) (Deliver from to partition) }
         ensures keeps { RefusalKeeps result (view self.old) (view self.new) }
     {
-        if !self.layout.has_line(from, to, partition) {
-            return Err(Refusal::NotInLayout);
-        }
-        let (from, to) = (site_of(from), site_of(to));
-        let Some(entry) = self.server(from, partition).next_for(to) else {
+        let (from, to) = self.layout.line(from, to, partition)?;
+        let Some(entry) = self.server(from).next_for(to.site) else {
             return Err(Refusal::NothingWaits);
         };
-        self.take(to, partition, from, entry)?;
-        self.hand_over(from, partition, to);
+        self.take(to, from.site, entry)?;
+        self.hand_over(from, to.site);
         Ok(())
     }
 }

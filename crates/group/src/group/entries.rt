@@ -10,6 +10,7 @@ ghost use Rattle.group.specs.Answers.{shown_numbers};
 ghost use Rattle.group.specs.Groups.{view};
 
 use super::Group;
+use crate::place::Place;
 use crate::session::Session;
 use crate::shown::Shown;
 use marks::mark_kind::MarkKind;
@@ -36,24 +37,16 @@ impl<C: ClockRule, K: MarkKind> Group<C, K> {
         ensures step { (stamp_number result, view self.new) ≡ put_worth C.ClockRule.answer K.MarkKind.kind (view self.old) number key (session_at (view self.old) number) (Lawful (worth value)) }
         ensures keeps { RefusalKeeps result (view self.old) (view self.new) }
     {
-        let Session {
-            site,
-            depends,
-            knows,
-        } = self.session_at(number);
-        let partition = self.layout.partition_of(key);
-        let mark = K::floor(depends);
-        let source = self.source(site, partition);
-        let stamp = self.write(site, partition, key, value, mark, K::floor(knows))?;
+        let session = self.session_at(number);
+        let place = Place {
+            site: session.site,
+            partition: self.layout.partition_of(key),
+        };
+        let mark = K::floor(session.depends);
+        let source = self.server(place).site();
+        let stamp = self.write(place, key, value, mark, K::floor(session.knows))?;
         let depends = K::row(K::join(mark, K::lift(source, stamp)));
-        self.set_session(
-            number,
-            Session {
-                site,
-                depends,
-                knows,
-            },
-        );
+        self.set_session(number, Session { depends, ..session });
         Ok(stamp)
     }
 
@@ -65,13 +58,12 @@ impl<C: ClockRule, K: MarkKind> Group<C, K> {
         if !self.has_session(session) {
             return Err(Refusal::NoSession);
         }
-        let site = self.session_at(session).site;
         let partition = self.layout.partition_of(key);
-        self.learn(session, partition);
-        let Some(version) = self.server(site, partition).latest_visible(key) else {
+        let place = self.learn(session, partition);
+        let Some(version) = self.server(place).latest_visible(key) else {
             return Ok(None);
         };
         self.depend(session, &version);
-        Ok(Some(Shown::of(&version)))
+        Ok(Some(Shown::from(&version)))
     }
 }

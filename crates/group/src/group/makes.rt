@@ -6,8 +6,8 @@ ghost use Rattle.model.specs.Promises.{KeepsPromises};
 ghost use Rattle.group.specs.Groups.{view};
 
 use super::Group;
-use super::places::site_of;
 use crate::layout::Layout;
+use crate::place::site_of;
 use crate::seats::Seats;
 use crate::session::Session;
 use fixed_vec::FixedVec;

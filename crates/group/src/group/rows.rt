@@ -1,15 +1,18 @@
 // The rows of marks that a common floor is taken of.
 ghost use Rattle.std.specs.Prelude.{◌≡◌, ◌++◌};
+ghost use Rattle.std.specs.Fn.{FnReturnsAt};
+ghost use Rattle.std.specs.Option.{option_map};
 ghost use Rattle.fixed_vec.specs.Items.{items};
 ghost use Rattle.marks.specs.CommonFloors.{numbers};
-ghost use Rattle.model.specs.Groups.{reported_at, stable_at, cuts_at, seat_at};
-ghost use Rattle.std.specs.Option.{option_map};
-ghost use Rattle.group.specs.Groups.{view};
-ghost use Rattle.group.specs.Sessions.{cut_in, row_numbers};
+ghost use Rattle.model.specs.Groups.{stable_at, cuts_at};
+ghost use Rattle.group.specs.Groups.{view, RowsOf, ServersOf};
+ghost use Rattle.group.specs.Sessions.{cut_in, row_numbers, seat_state};
 
 use super::Group;
+use crate::seat::Seat;
 use fixed_vec::FixedVec;
 use marks::mark_kind::MarkKind;
+use servers::server::Server;
 use stamps::clock_rule::ClockRule;
 use stamps::row::Row;
 use stamps::site::Site;
@@ -19,35 +22,38 @@ use stamps::stamp::Stamp;
 pub(crate) const MOST_ROWS: usize = 8;
 
 impl<C: ClockRule, K: MarkKind> Group<C, K> {
-    // The reported marks of a site's servers.
-    pub(crate) fn reported_rows(&self, site: Site) -> FixedVec<Row, MOST_ROWS>
-        ensures { numbers (items result) ≡ reported_at (view self.now) site.number }
+    // A row of each server of a site, by partition.
+    pub(crate) fn rows_of<F: Fn(&Server<C, K>) -> Row>(
+        &self,
+        site: Site,
+        row_of: F,
+    ) -> FixedVec<Row, MOST_ROWS>
+        requires { F.IsAlwaysCallable row_of }
+        ensures { RowsOf (λ s r. FnReturnsAt F.Fn row_of s r) ((view self.now).server site.number) (view self.now).partitions (items result) }
     {
         let mut rows = FixedVec::new(Row::same(Stamp::zero()));
-        for partition in 0..self.layout.partitions() {
-            let _ = rows.push(self.server(site, partition).reported());
+        for server in self.servers_of(site) {
+            let _ = rows.push(row_of(server));
         }
         rows
     }
 
-    // The stable marks of a site's servers.
-    pub(crate) fn stable_rows(&self, site: Site) -> FixedVec<Row, MOST_ROWS>
-        ensures { numbers (items result) ≡ stable_at (view self.now) site.number }
+    // The servers of a site, by partition.
+    fn servers_of(&self, site: Site) -> &[Server<C, K>]
+        ensures { ServersOf self.now site.number result.now }
     {
-        let mut rows = FixedVec::new(Row::same(Stamp::zero()));
-        for partition in 0..self.layout.partitions() {
-            let _ = rows.push(self.server(site, partition).stable());
-        }
-        rows
+        let first = site.number() as usize * 4;
+        let servers = &self.servers[..];
+        &servers[first..first + self.layout.partitions() as usize]
     }
 
     // The stable marks of a site's servers, and the cuts of the open snapshots of its sessions.
     pub(crate) fn safe_rows(&self, site: Site) -> FixedVec<Row, MOST_ROWS>
         ensures { numbers (items result) ≡ stable_at (view self.now) site.number ++ cuts_at (view self.now) site.number }
     {
-        let mut rows = self.stable_rows(site);
-        for seat in 0..self.seats.count() {
-            if let Some(cut) = self.cut_at(seat, site) {
+        let mut rows = self.rows_of(site, |server| server.stable());
+        for seat in self.seats.as_slice() {
+            if let Some(cut) = self.cut_of(*seat, site) {
                 let _ = rows.push(cut);
             }
         }
@@ -55,10 +61,10 @@ impl<C: ClockRule, K: MarkKind> Group<C, K> {
     }
 
     // The cut of the open snapshot at a seat, if its session is at the site.
-    fn cut_at(&self, number: u8, site: Site) -> Option<Row>
-        ensures { option_map row_numbers result ≡ cut_in (view self.now) site.number (seat_at (view self.now) number) }
+    fn cut_of(&self, seat: Option<Seat>, site: Site) -> Option<Row>
+        ensures { option_map row_numbers result ≡ cut_in (view self.now) site.number (option_map seat_state seat) }
     {
-        let seat = self.seats.at(number)?;
+        let seat = seat?;
         if self.session_at(seat.session).site.number() != site.number() {
             return None;
         }

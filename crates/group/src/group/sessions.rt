@@ -6,7 +6,6 @@ ghost use Rattle.model.specs.Events.{open_session};
 ghost use Rattle.group.specs.Groups.{view};
 
 use super::Group;
-use super::places::site_of;
 use crate::session::Session;
 use marks::mark_kind::MarkKind;
 use stamps::clock_rule::ClockRule;
@@ -18,13 +17,11 @@ impl<C: ClockRule, K: MarkKind> Group<C, K> {
         ensures step { (result, view self.new) ≡ asked C.ClockRule.answer K.MarkKind.kind (view self.old) (open_session site) }
         ensures keeps { RefusalKeeps result (view self.old) (view self.new) }
     {
-        if site >= self.layout.sites().number() {
-            return Err(Refusal::NotInLayout);
-        }
+        let site = self.layout.site(site)?;
         let number = self.sessions.len() as u8;
-        match self.sessions.push(Session::new(site_of(site))) {
-            Ok(()) => Ok(number),
-            Err(_) => Err(Refusal::NoneFree),
-        }
+        self.sessions
+            .push(Session::new(site))
+            .map_err(|_| Refusal::NoneFree)?;
+        Ok(number)
     }
 }

@@ -7,9 +7,10 @@ ghost use Rattle.model.specs.Calls.{asked};
 ghost use Rattle.model.specs.Events.{open_snapshot, read as Read, close as Close};
 ghost use Rattle.group.specs.Answers.{shown_numbers, ticket_state, ticket_numbers};
 ghost use Rattle.group.specs.Groups.{view};
-ghost use Rattle.group.specs.Sessions.{open_at, seat_numbers, seat_state};
+ghost use Rattle.group.specs.Sessions.{open_at, seat_numbers};
 
 use super::Group;
+use crate::place::Place;
 use crate::seat::Seat;
 use crate::shown::Shown;
 use crate::ticket::Ticket;
@@ -24,22 +25,18 @@ impl<C: ClockRule, K: MarkKind> Group<C, K> {
         ensures step { (ticket_numbers result, view self.new) ≡ asked C.ClockRule.answer K.MarkKind.kind (view self.old) (open_snapshot session partition) }
         ensures keeps { RefusalKeeps result (view self.old) (view self.new) }
     {
-        if partition >= self.layout.partitions() {
-            return Err(Refusal::NotInLayout);
-        }
+        let partition = self.layout.partition(partition)?;
         if !self.has_session(session) {
             return Err(Refusal::NoSession);
         }
-        let number = self.seats.lowest_free();
-        if number >= self.seats.count() {
+        let Some(number) = self.seats.lowest_free() else {
             return Err(Refusal::NoneFree);
-        }
+        };
         if self.next_serial == u32::MAX {
             return Err(Refusal::End);
         }
-        let site = self.session_at(session).site;
-        self.learn(session, partition);
-        let cut = self.server(site, partition).stable();
+        let place = self.learn(session, partition);
+        let cut = self.server(place).stable();
         Ok(self.take_seat(number, session, cut))
     }
 
@@ -67,11 +64,10 @@ impl<C: ClockRule, K: MarkKind> Group<C, K> {
     fn open_seat(&self, ticket: &Ticket) -> Result<Seat, Refusal>
         ensures { seat_numbers result ≡ open_at ticket.now.serial (seat_at (view self.now) ticket.now.seat) }
     {
-        let held = self.seats.at(ticket.seat);
-        match held {
-            Some(seat) if seat.serial == ticket.serial => Ok(seat),
-            _ => Err(Refusal::NotOpen),
-        }
+        self.seats
+            .at(ticket.seat)
+            .filter(|seat| seat.serial == ticket.serial)
+            .ok_or(Refusal::NotOpen)
     }
 
     // The latest version of a key that the snapshot's cut covers, or none.
@@ -80,15 +76,17 @@ impl<C: ClockRule, K: MarkKind> Group<C, K> {
         ensures keeps { RefusalKeeps result (view self.old) (view self.new) }
     {
         let seat = self.open_seat(ticket)?;
-        let site = self.session_at(seat.session).site;
-        let partition = self.layout.partition_of(key);
+        let place = Place {
+            site: self.session_at(seat.session).site,
+            partition: self.layout.partition_of(key),
+        };
         let cut = K::floor(seat.cut);
-        self.raise(site, partition, cut);
-        let Some(version) = self.server(site, partition).latest_covered(key, cut) else {
+        self.raise(place, cut);
+        let Some(version) = self.server(place).latest_covered(key, cut) else {
             return Ok(None);
         };
         self.depend(seat.session, &version);
-        Ok(Some(Shown::of(&version)))
+        Ok(Some(Shown::from(&version)))
     }
 
     // The end of a snapshot. The ticket is taken in either case, done or refused.

@@ -6,7 +6,6 @@ ghost use Rattle.model.specs.Events.{report as Report, stabilise as Stabilise};
 ghost use Rattle.group.specs.Groups.{view};
 
 use super::Group;
-use super::places::{place, site_of};
 use marks::common_floor::common_floor;
 use marks::mark_kind::MarkKind;
 use stamps::clock_rule::ClockRule;
@@ -18,10 +17,8 @@ impl<C: ClockRule, K: MarkKind> Group<C, K> {
         ensures step { (result, view self.new) ≡ asked C.ClockRule.answer K.MarkKind.kind (view self.old) (Report site partition) }
         ensures keeps { RefusalKeeps result (view self.old) (view self.new) }
     {
-        if !self.layout.has_server(site, partition) {
-            return Err(Refusal::NotInLayout);
-        }
-        self.servers[place(site, partition)].report();
+        let place = self.layout.place(site, partition)?;
+        self.servers[place.index()].report();
         Ok(())
     }
 
@@ -30,13 +27,10 @@ impl<C: ClockRule, K: MarkKind> Group<C, K> {
         ensures step { (result, view self.new) ≡ asked C.ClockRule.answer K.MarkKind.kind (view self.old) (Stabilise site partition) }
         ensures keeps { RefusalKeeps result (view self.old) (view self.new) }
     {
-        if !self.layout.has_server(site, partition) {
-            return Err(Refusal::NotInLayout);
-        }
-        let at = site_of(site);
-        let rows = self.reported_rows(at);
+        let place = self.layout.place(site, partition)?;
+        let rows = self.rows_of(place.site, |server| server.reported());
         let floor = common_floor::<K>(rows.as_slice());
-        self.raise(at, partition, floor);
+        self.raise(place, floor);
         Ok(())
     }
 }

@@ -6,7 +6,6 @@ ghost use Rattle.model.specs.Events.{tidy as Tidy};
 ghost use Rattle.group.specs.Groups.{view};
 
 use super::Group;
-use super::places::site_of;
 use marks::common_floor::common_floor;
 use marks::mark_kind::MarkKind;
 use stamps::clock_rule::ClockRule;
@@ -18,12 +17,9 @@ impl<C: ClockRule, K: MarkKind> Group<C, K> {
         ensures step { (result, view self.new) ≡ asked C.ClockRule.answer K.MarkKind.kind (view self.old) (Tidy site partition) }
         ensures keeps { RefusalKeeps result (view self.old) (view self.new) }
     {
-        if !self.layout.has_server(site, partition) {
-            return Err(Refusal::NotInLayout);
-        }
-        let at = site_of(site);
-        let rows = self.safe_rows(at);
+        let place = self.layout.place(site, partition)?;
+        let rows = self.safe_rows(place.site);
         let safe = common_floor::<K>(rows.as_slice());
-        Ok(self.drop_outdated(at, partition, safe))
+        Ok(self.drop_outdated(place, safe))
     }
 }

@@ -1,10 +1,14 @@
 // The check of a draft, and questions to a checked layout.
-ghost use Rattle.std.specs.Prelude.{◌≡◌, ◌%◌, ◌<◌};
-ghost use Rattle.group.specs.Layouts.{counts_of, checked_counts, has_server, has_line};
+ghost use Rattle.std.specs.Prelude.{◌≡◌, ◌%◌};
+ghost use Rattle.stamps.specs.Checks.{site_number};
+ghost use Rattle.group.specs.Layouts.{counts_of, checked_counts, has_server, below, partition_number, place_numbers, checked_place, line_numbers, checked_line};
 
 use super::{Draft, Layout};
+use crate::partition::Partition;
+use crate::place::Place;
 use servers::site_count::SiteCount;
 use stamps::refusal::Refusal;
+use stamps::site::Site;
 
 impl Draft {
     // The checked layout of these counts; refused unless there are 2 to 4 sites and 1 to 4 partitions.
@@ -33,12 +37,33 @@ impl Layout {
         self.partitions
     }
 
-    // The partition of a key.
-    pub(crate) fn partition_of(&self, key: u16) -> u8
-        ensures value { result ≡ key % self.now.partitions }
-        ensures within { result < 4 }
+    // A site of the layout.
+    pub(crate) fn site(&self, number: u8) -> Result<Site, Refusal>
+        ensures { site_number result ≡ below self.now.sites.number number }
     {
-        (key % self.partitions as u16) as u8
+        if number >= self.sites.number() {
+            return Err(Refusal::NotInLayout);
+        }
+        Site::new(number)
+    }
+
+    // A partition of the layout.
+    pub(crate) fn partition(&self, number: u8) -> Result<Partition, Refusal>
+        ensures { partition_number result ≡ below self.now.partitions number }
+    {
+        if number >= self.partitions {
+            return Err(Refusal::NotInLayout);
+        }
+        Ok(Partition { number })
+    }
+
+    // The partition of a key.
+    pub(crate) fn partition_of(&self, key: u16) -> Partition
+        ensures { result.number ≡ key % self.now.partitions }
+    {
+        Partition {
+            number: (key % self.partitions as u16) as u8,
+        }
     }
 
     // Whether the site has such a server.
@@ -48,10 +73,24 @@ impl Layout {
         site < self.sites.number() && partition < self.partitions
     }
 
-    // Whether entries go from one site to the other.
-    pub(crate) fn has_line(&self, from: u8, to: u8, partition: u8) -> bool
-        ensures { result ≡ has_line self.now.sites.number self.now.partitions from to partition }
+    // Where the server of a site and a partition stands.
+    pub(crate) fn place(&self, site: u8, partition: u8) -> Result<Place, Refusal>
+        ensures { place_numbers result ≡ checked_place self.now.sites.number self.now.partitions site partition }
     {
-        self.has_server(from, partition) && self.has_server(to, partition) && from != to
+        let site = self.site(site)?;
+        let partition = self.partition(partition)?;
+        Ok(Place { site, partition })
+    }
+
+    // The two servers of a partition between which entries go from one site to the other.
+    pub(crate) fn line(&self, from: u8, to: u8, partition: u8) -> Result<(Place, Place), Refusal>
+        ensures { line_numbers result ≡ checked_line self.now.sites.number self.now.partitions from to partition }
+    {
+        let sender = self.place(from, partition)?;
+        let taker = self.place(to, partition)?;
+        if from == to {
+            return Err(Refusal::NotInLayout);
+        }
+        Ok((sender, taker))
     }
 }

@@ -1,12 +1,17 @@
-use Rattle.std.proofs.Common.{sym, arith}
+use Rattle.std.proofs.Common.{ap, ◌∙◌, arith}
 use Rattle.std.proofs.lemmas.Int.{to_z-of_z}
-use Rattle.std.proofs.lemmas.Bool.Decides.{nat_tests}
-use Rattle.group.proofs.Views.{at_place, in_array}
+use Rattle.servers.specs.Servers.{lead_of}
+use Rattle.model.specs.Calls.{has_server}
+use Rattle.group.specs.Layouts.{numbers_of}
+use Rattle.group.specs.Groups.{view}
+use Rattle.group.proofs.Views.{by_numbers, passed}
 use Rattle.group.proofs.group.Group.lead.Goals as goal
 
 pub returns : goal.returns
 returns g c =
-    let self = c.args.self.now in
-    let l = in_array self.layout c.args.site c.args.partition (sym c.if-not-has_server.ensures) in
-    let there = at_place self.layout.sites.number self.servers c.args.site c.args.partition c.place.result c.index-self-place.result (omega arith) l.0 l.1 c.place.ensures in
-    grind (arith, nat_tests, to_z-of_z, there)
+    let before = view c.args.self.now in
+    let place = c.in_ok-place.place in
+    let is = passed (has_server before c.args.site c.args.partition) (numbers_of place) (c.args.site, c.args.partition) c.in_ok-place.ensures in
+    let same = ap lead_of (c.server.ensures ∙ by_numbers before.server c.args.site c.args.partition place is.1) in
+    let has = is.0 in
+    grind (arith, to_z-of_z, c.lead.ensures, same, has)

@@ -7,11 +7,12 @@ use Rattle.group.specs.Sessions.{session_state}
 use Rattle.group.proofs.Sessions.{learns}
 use Rattle.group.proofs.group.Group.learn.Goals as goal
 
-pub returns : goal.returns
-returns g c =
+pub returns-clause-state : goal.returns-clause-state
+returns-clause-state g c =
     let before = view c.args.self.now in
     let k = g.K.MarkKind.kind in
-    learns k before (view c.raise.new.self) (view c.set_session.new.self) c.args.number c.args.partition (session_state c.session_at.result)
+    let p = c.args.partition.number in
+    learns k before (view c.raise.new.self) (view c.set_session.new.self) c.args.number p (session_state c.session_at-session.result)
     (g.K.MarkKind.meaning c.floor.result) (four c.stable-knows.result.entries) c.raise.ensures c.floor.ensures
     (c.stable-knows.ensures ∙ ap (λ (s : ServerState). s.marks.stable) c.server.ensures) c.set_session.ensures
-    ∙ ap (λ x. learning k before c.args.number x c.args.partition) c.session_at.ensures
+    ∙ ap (λ x. learning k before c.args.number x p) c.session_at-session.ensures

@@ -4,13 +4,14 @@ use Rattle.stamps.specs.declared.stamp.Stamp.{Stamp}
 use Rattle.stamps.specs.Checks.{stamp_number}
 use Rattle.stamps.specs.Refusals.{RefusalKeeps}
 use Rattle.stamps.specs.Rows.{four, join}
-use Rattle.servers.specs.Servers.{putting}
+use Rattle.servers.specs.Servers.{ServerState, putting}
 use Rattle.servers.specs.Values.{worth}
 use Rattle.model.specs.Groups.{partition_of}
 use Rattle.model.specs.Calls.{put_worth}
 use Rattle.group.specs.Groups.{view}
 use Rattle.group.specs.Sessions.{session_state}
-use Rattle.group.proofs.Sessions.{puts, puts_not, left_keeps, writes}
+use Rattle.group.proofs.Views.{refused_same}
+use Rattle.group.proofs.Sessions.{puts, puts_not, writes}
 use Rattle.group.proofs.group.Group.put_value.Goals as goal
 
 pub returns-in_err-stamp : goal.returns-in_err-stamp
@@ -19,22 +20,22 @@ returns-in_err-stamp g c =
     let mid = view c.write.new.self in
     let rule = g.C.ClockRule.answer in
     let k = g.K.MarkKind.kind in
-    let x = session_state c.session_at.result in
+    let x = session_state c.session_at-session.result in
     let value = worth c.args.value in
     let p = partition_of before c.args.key in
     let why = c.in_err-stamp.field-0.0 in
     let refused : c.from_residual.result ≡ Err why = search rules in
     let t = putting rule k (before.server x.site p) c.args.key value (k.floor x.depends) (k.floor x.knows) in
     let wrote =
-    writes rule k before mid x.site c.args.key c.partition_of-partition.result p value (g.K.MarkKind.meaning c.floor-mark.result) (k.floor x.depends)
-    (g.K.MarkKind.meaning c.floor.result) (k.floor x.knows) (Err why) c.partition_of-partition.ensures.value c.floor-mark.ensures c.floor.ensures
+    writes rule k before mid x.site c.args.key c.partition_of.result.number p value (g.K.MarkKind.meaning c.floor-mark.result) (k.floor x.depends)
+    (g.K.MarkKind.meaning c.floor.result) (k.floor x.knows) (Err why) c.partition_of.ensures c.floor-mark.ensures c.floor.ensures
     (ap (λ (r : Result Stamp Refusal). (stamp_number r, mid)) (sym c.in_err-stamp.was) ∙ c.write.ensures)
     in
     record {
       step =
           ap (λ (r : Result Stamp Refusal). (stamp_number r, mid)) refused ∙ puts_not k before mid c.args.number c.args.key why x value t wrote
-          ∙ ap (λ s. put_worth rule k before c.args.number c.args.key s (Ok value)) c.session_at.ensures;
-      keeps = subst (λ r. RefusalKeeps r before mid) (sym refused) (left_keeps before mid x.site p why t wrote);
+          ∙ ap (λ s. put_worth rule k before c.args.number c.args.key s (Ok value)) c.session_at-session.ensures;
+      keeps = subst (λ r. RefusalKeeps r before mid) (sym refused) (refused_same before mid x.site p why t wrote);
     }
 
 pub returns : goal.returns
@@ -43,7 +44,7 @@ returns g c =
     let mid = view c.write.new.self in
     let rule = g.C.ClockRule.answer in
     let k = g.K.MarkKind.kind in
-    let x = session_state c.session_at.result in
+    let x = session_state c.session_at-session.result in
     let value = worth c.args.value in
     let p = partition_of before c.args.key in
     let stamp = c.in_ok-stamp.stamp.value in
@@ -53,18 +54,18 @@ returns g c =
     let own = g.met.K.MarkKind.lawful.floor_own mark meant.0 meant.1 in
     let source = (before.server x.site p).site in
     let wrote =
-    writes rule k before mid x.site c.args.key c.partition_of-partition.result p value mark (k.floor x.depends)
-    (g.K.MarkKind.meaning c.floor.result) (k.floor x.knows) (Ok stamp) c.partition_of-partition.ensures.value c.floor-mark.ensures c.floor.ensures
+    writes rule k before mid x.site c.args.key c.partition_of.result.number p value mark (k.floor x.depends)
+    (g.K.MarkKind.meaning c.floor.result) (k.floor x.knows) (Ok stamp) c.partition_of.ensures c.floor-mark.ensures c.floor.ensures
     (ap (λ (r : Result Stamp Refusal). (stamp_number r, mid)) (sym c.in_ok-stamp.was) ∙ c.write.ensures)
     in
     let full =
     c.row-depends.ensures ∙ c.join.ensures ∙ ap (join mark) c.lift.ensures
-    ∙ ap (λ s. join mark (k.lift s stamp)) (c.source-source.ensures ∙ ap (λ q. (before.server x.site q).site) c.partition_of-partition.ensures.value)
+    ∙ ap (λ s. join mark (k.lift s stamp)) (c.site-source.ensures ∙ ap (λ (t : ServerState). t.site) c.server.ensures ∙ ap (λ q. (before.server x.site q).site) c.partition_of.ensures)
     ∙ ap (λ m. join m (k.lift source stamp)) (sym own ∙ ap k.floor c.floor-mark.ensures)
     in
     record {
       step =
           puts k before mid (view c.set_session.new.self) c.args.number c.args.key stamp x value t (four c.row-depends.result.entries) wrote full c.set_session.ensures
-          ∙ ap (λ s. put_worth rule k before c.args.number c.args.key s (Ok value)) c.session_at.ensures;
+          ∙ ap (λ s. put_worth rule k before c.args.number c.args.key s (Ok value)) c.session_at-session.ensures;
       keeps = tt;
     }

@@ -20,9 +20,9 @@ returns-in_default g c =
     let ticket = c.args.ticket.now in
     record {
       step =
-          reads k before mid mid y c.args.key c.partition_of-partition.result c.session_at.result.site.number (g.K.MarkKind.meaning c.floor-cut.result)
+          reads k before mid mid y c.args.key c.partition_of.result.number c.session_at.result.site.number (g.K.MarkKind.meaning c.floor-cut.result)
           (server_view c.server.result.now) (shown c.latest_covered.result) (Ok None)
-          (ap (λ (x : SessionState). x.site) c.session_at.ensures) c.partition_of-partition.ensures.value c.floor-cut.ensures c.raise.ensures c.server.ensures
+          (ap (λ (x : SessionState). x.site) c.session_at.ensures) c.partition_of.ensures c.floor-cut.ensures c.raise.ensures c.server.ensures
           c.latest_covered.ensures.value
           (ap (λ (o : Option Version). showing k mid y.session (shown o)) (sym c.in_default.is))
           ∙ sym (opens before ticket.serial (seat_at before ticket.seat) y _ (sym c.open_seat.ensures ∙ ap seat_numbers c.in_ok-seat.was));
@@ -39,11 +39,11 @@ returns g c =
     let ticket = c.args.ticket.now in
     record {
       step =
-          reads k before mid (view c.depend.new.self) y c.args.key c.partition_of-partition.result c.session_at.result.site.number (g.K.MarkKind.meaning c.floor-cut.result)
-          (server_view c.server.result.now) (shown c.latest_covered.result) (Ok (Some (shown_state c.of.result)))
-          (ap (λ (x : SessionState). x.site) c.session_at.ensures) c.partition_of-partition.ensures.value c.floor-cut.ensures c.raise.ensures c.server.ensures
+          reads k before mid (view c.depend.new.self) y c.args.key c.partition_of.result.number c.session_at.result.site.number (g.K.MarkKind.meaning c.floor-cut.result)
+          (server_view c.server.result.now) (shown c.latest_covered.result) (Ok (Some (shown_state c.from.result)))
+          (ap (λ (x : SessionState). x.site) c.session_at.ensures) c.partition_of.ensures c.floor-cut.ensures c.raise.ensures c.server.ensures
           c.latest_covered.ensures.value
-          (ap (λ t. (Ok (Some t), view c.depend.new.self)) c.of.ensures ∙ ap (λ h. (Ok (Some (shown_of v)), h)) c.depend.ensures
+          (ap (λ t. (Ok (Some t), view c.depend.new.self)) c.from.ensures ∙ ap (λ h. (Ok (Some (shown_of v)), h)) c.depend.ensures
           ∙ ap (λ (o : Option Version). showing k mid y.session (shown o)) (sym c.in-Some.is))
           ∙ sym (opens before ticket.serial (seat_at before ticket.seat) y _ (sym c.open_seat.ensures ∙ ap seat_numbers c.in_ok-seat.was));
       keeps = tt;

@@ -1,14 +1,15 @@
-use Rattle.std.proofs.Common.{◌≡◌, ◌+◌, ◌<◌, ◌≤◌, ◌++◌, length, drop, sym, ap, ◌∙◌, subst, arith}
+use Rattle.std.proofs.Common.{◌≡◌, ◌+◌, ◌<◌, ◌≤◌, ◌++◌, None, length, get_or, drop, sym, ap, ◌∙◌, subst, arith, rules}
 use Rattle.std.specs.Option.{option_map}
+use Rattle.std.proofs.lemmas.List.{length-map}
 use Rattle.fixed_vec.specs.Items.{items}
 use Rattle.fixed_vec.specs.declared.fixed_vec.FixedVec.{FixedVec}
 use Rattle.stamps.specs.declared.row.Row.{Row}
 use Rattle.marks.specs.CommonFloors.{numbers}
 use Rattle.model.specs.Groups.{cuts_at, cuts_of, stable_at}
 use Rattle.group.specs.Groups.{view}
-use Rattle.group.specs.Sessions.{row_numbers, seat_states}
-use Rattle.group.proofs.Cuts.{cut_more, cut_none, cut_last}
-use Rattle.group.proofs.Rows.{length_numbers, length_first, length_pushed}
+use Rattle.group.specs.Sessions.{cut_in, row_numbers, seat_state, seat_states}
+use Rattle.group.proofs.Cuts.{cut_more, cut_none, seat_of_place}
+use Rattle.group.proofs.Rows.{length_numbers, length_first, length_pushed, rows_lem}
 use Rattle.group.proofs.group.Group.safe_rows.Goals as goal
 use Rattle.group.proofs.group.Group.safe_rows.Goals.{in-Some, in_default}
 
@@ -16,37 +17,40 @@ pub loop-seat-init : goal.loop-seat-init
 loop-seat-init g c =
     let before = view c.args.self.now in
     let site = c.args.site.number in
-    let rows = items c.stable_rows-rows.result in
-    let few : length rows ≤ 4 + 0 = omega (arith, length_numbers rows, ap length c.stable_rows-rows.ensures, length_first (λ n. (before.server site n).marks.stable) before.partitions) in
-    (ap (λ t. t ++ cuts_at before site) c.stable_rows-rows.ensures, few)
+    let rows = items c.rows_of-rows.result in
+    let stable : numbers rows ≡ stable_at before site =
+    rows_lem _ (λ s. s.marks.stable) (before.server site) before.partitions rows (λ s row given. search rules) c.rows_of-rows.ensures
+    in
+    let few : length rows ≤ 4 + 0 =
+    omega (arith, length_numbers rows, ap length stable, length_first (λ n. (before.server site n).marks.stable) before.partitions, c.args.self.now.layout.some_partitions.1)
+    in
+    (ap (λ t. t ++ cuts_at before site) stable, few)
 
 pub loop-seat-preserved : goal.loop-seat-preserved
 loop-seat-preserved g c =
     let before = view c.args.self.now in
     let site = c.args.site.number in
     let seats = seat_states c.args.self.now.seats in
-    let i = c.loop-seat.seat in
+    let i = c.loop-seat.seat-index in
     let xs = items c.loop-seat.rows in
     let all = stable_at before site ++ cuts_at before site in
     let Collected : FixedVec Row 8 → Type 0 = λ rows. (numbers (items rows) ++ cuts_of before site (drop (i + 1) seats) ≡ all) × (length (items rows) ≤ 4 + (i + 1)) in
-    let here : i < length seats = omega arith in
+    let here : i < length seats = omega (arith, c.args.self.now.seats.sized, ap length c.as_slice-seat-items.ensures, length-map c.as_slice-seat-items.result.now (option_map seat_state)) in
+    let seat : get_or seats i None ≡ option_map seat_state c.seat-item.result =
+    seat_of_place seats c.as_slice-seat-items.result.now i c.seat-item.result c.as_slice-seat-items.ensures c.seat-item.is (omega arith)
+    in
     let few : length xs ≤ 4 + i = c.loop-seat.invariant.1 in
+    let four : length seats ≡ 4 = length-map c.args.self.now.seats.places (option_map seat_state) ∙ c.args.self.now.seats.sized in
     let room : length xs < 8 = omega arith in
-    elim c.match-cut_at.branch [
+    elim c.match-cut_of.branch [
       | in-Some w ↦
           let more = length_pushed 8 xs (items w.push.new.self) w.in-Some.cut w.push.result w.push.ensures room in
           subst Collected (sym w.rows-is) (
             cut_more before site seats i xs (items w.push.new.self) w.in-Some.cut w.push.result all here
-                (sym c.cut_at.ensures ∙ ap (option_map row_numbers) w.in-Some.is) w.push.ensures room c.loop-seat.invariant.0,
+                (ap (cut_in before site) seat ∙ sym c.cut_of.ensures ∙ ap (option_map row_numbers) w.in-Some.is) w.push.ensures room c.loop-seat.invariant.0,
             omega arith,
           )
       | in_default w ↦
           subst Collected (sym w.rows-is)
-          (cut_none before site seats i xs all here (sym c.cut_at.ensures ∙ ap (option_map row_numbers) w.in_default.is) c.loop-seat.invariant.0, omega arith)
+          (cut_none before site seats i xs all here (ap (cut_in before site) seat ∙ sym c.cut_of.ensures ∙ ap (option_map row_numbers) w.in_default.is) c.loop-seat.invariant.0, omega arith)
     ]
-
-pub returns : goal.returns
-returns g c =
-    let before = view c.args.self.now in
-    let site = c.args.site.number in
-    cut_last before site (seat_states c.args.self.now.seats) c.loop-seat.seat (items c.loop-seat.rows) (stable_at before site ++ cuts_at before site) (omega arith) c.loop-seat.invariant.0

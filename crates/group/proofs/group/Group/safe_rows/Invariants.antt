@@ -9,6 +9,6 @@ use Rattle.group.proofs.group.Group.safe_rows.Given as goal
 -- the rows so far and the cuts of the seats that are left, and there is room for a row for each
 abbrev pub invariant-loop-seat : goal.invariant-loop-seat
 invariant-loop-seat g l =
-    (numbers (items l.rows) ++ cuts_of (view l.self) l.site.number (drop l.seat (seat_states l.self.seats))
+    (numbers (items l.rows) ++ cuts_of (view l.self) l.site.number (drop l.seat-index (seat_states l.self.seats))
     ≡ stable_at (view l.self) l.site.number ++ cuts_at (view l.self) l.site.number)
-    × (length (items l.rows) ≤ 4 + l.seat)
+    × (length (items l.rows) ≤ 4 + l.seat-index)

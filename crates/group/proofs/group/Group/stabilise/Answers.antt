@@ -1,26 +1,29 @@
-use Rattle.std.proofs.Common.{Ok, Err, sym, ap, ◌∙◌}
-use Rattle.std.proofs.lemmas.Bool.{cond-true}
-use Rattle.stamps.specs.declared.refusal.Refusal.TheVariants.{NotInLayout}
+use Rattle.std.proofs.Common.{Ok, ap, ◌∙◌, rules}
 use Rattle.stamps.specs.Rows.{Four}
+use Rattle.fixed_vec.specs.Items.{items}
 use Rattle.marks.specs.CommonFloors.{common_floor, numbers}
-use Rattle.model.specs.Groups.{reported_at, with_server}
+use Rattle.model.specs.Groups.{reported_at}
 use Rattle.servers.specs.Servers.{raised}
-use Rattle.group.specs.Groups.{view}
+use Rattle.model.specs.Calls.{has_server}
+use Rattle.group.specs.Layouts.{numbers_of}
+use Rattle.group.specs.Groups.{called_at, view}
+use Rattle.group.proofs.Views.{by_numbers, on_place, passed}
+use Rattle.group.proofs.Rows.{rows_lem}
 use Rattle.group.proofs.group.Group.stabilise.Goals as goal
 
-pub returns : goal.returns
-returns g c =
+pub returns-clause-step : goal.returns-clause-step
+returns-clause-step g c =
     let before = view c.args.self.now in
+    let place = c.in_ok-place.place in
     let k = g.K.MarkKind.kind in
-    let p = c.args.partition in
-    let floor =
-    c.common_floor-floor.ensures.value ∙ ap (λ rows. common_floor k (numbers rows)) c.as_slice.ensures
-    ∙ ap (common_floor k) (c.reported_rows-rows.ensures ∙ ap (reported_at before) c.site_of-at.ensures)
+    let is = passed (has_server before c.args.site c.args.partition) (numbers_of place) (c.args.site, c.args.partition) c.in_ok-place.ensures in
+    let rows =
+    rows_lem _ (λ s. s.marks.reported) (before.server place.site.number) before.partitions (items c.rows_of-rows.result) (λ s row given. search rules) c.rows_of-rows.ensures
     in
-    record {
-      step =
-          ap (λ t. (Ok tt, t)) (c.raise.ensures ∙ ap (λ i. with_server before i p (raised k (before.server i p) (g.K.MarkKind.meaning c.common_floor-floor.result))) c.site_of-at.ensures
-          ∙ ap (λ (mark : Four). with_server before c.args.site p (raised k (before.server c.args.site p) mark)) floor)
-          ∙ sym (cond-true _ _ (Err NotInLayout, before) (sym c.if-not-has_server.ensures));
-      keeps = tt;
-    }
+    let floor =
+    c.common_floor-floor.ensures.value ∙ ap (λ rows. common_floor k (numbers rows)) c.as_slice.ensures ∙ ap (common_floor k) rows
+    ∙ by_numbers (λ site partition. common_floor k (reported_at before site)) c.args.site c.args.partition place is.1
+    in
+    ap (λ t. (Ok tt, t)) c.raise.ensures
+    ∙ ap (λ (mark : Four). called_at before place (λ s. (Ok tt, raised k s mark))) floor
+    ∙ on_place before c.args.site c.args.partition place (λ s. (Ok tt, raised k s (common_floor k (reported_at before c.args.site)))) c.in_ok-place.ensures
