@@ -67,11 +67,10 @@ fn count_lines(bytes: &[u8]) -> usize
     ensures few { result ≤ 65535 }
 {
     let mut rest = script_of(bytes);
-    let mut made = false;
     let mut count = 0;
     'lines: while !rest.is_empty() {
-        rest = rest_after(rest, made);
-        made = true;
+        // The first command has made the group.
+        rest = rest_after(rest, count > 0);
         count += 1;
     }
     count

@@ -6,6 +6,7 @@ use Rattle.std.proofs.lemmas.List.Elements.{All-cons, All-nil}
 use lib.Seq.{drop-drop}
 use Rattle.script.specs.Laws.{EachShort, ListingLaw}
 use Rattle.script.specs.Scripts.{lines_of, listing, view}
+use Rattle.script.specs.Stores.{store}
 use Rattle.script.proofs.Answered.{listing_law}
 use Rattle.script.proofs.LinesLeft.{line_came, lines_begun, lines_none, lines_some, lines_turn, lines_left, next_shorter, put_drop, put_take}
 use Rattle.script.proofs.list.write_lines.Goals as goal
@@ -22,15 +23,15 @@ write_next-end-requires c =
     let buffer = c.lines.buffer in
     let left = eqb-false (length c.lines.script.rest.now) 0 (sym c.lines-test.ensures) in
     let some : 0 < length c.lines.script.rest.now = omega arith in
-    let follows = lines_some (view c.lines.script) some in
+    let follows = lines_some (view store c.lines.script) some in
     let part = ap length (take_rest buffer c.lines.end) ∙ length-drop c.lines.end buffer in
     (omega (arith, part, follows, c.lines.invariant.room), some)
 
 pub lines-smaller : goal.lines-smaller
 lines-smaller c =
     let buffer = c.lines.buffer in
-    let before = view c.lines.script in
-    let after = view c.write_next-end.new.self in
+    let before = view store c.lines.script in
+    let after = view store c.write_next-end.new.self in
     let came = line_came before after c.write_next-end.result (take (length buffer - c.lines.end) (drop c.lines.end buffer)) c.write_next-end.new.buffer c.write_next-end.ensures.value in
     next_shorter before after came.line came.comes
 
@@ -40,8 +41,8 @@ lines-preserved c =
     let end = c.lines.end in
     let len = c.write_next-end.result in
     let k = length buffer - end in
-    let before = view c.lines.script in
-    let after = view c.write_next-end.new.self in
+    let before = view store c.lines.script in
+    let after = view store c.write_next-end.new.self in
     let left = c.write_next-end.new.buffer in
     let within : end ≤ length buffer = omega (arith, c.lines.invariant.room) in
     let came = line_came before after len (take k (drop end buffer)) left c.write_next-end.ensures.value in
@@ -65,7 +66,7 @@ lines-preserved c =
 all_written : (c : goal.After-lines) → take c.lines.end c.lines.buffer ≡ listing c.args.bytes.now
 all_written c =
     let front = take c.lines.end c.lines.buffer in
-    let none = lines_none (view c.lines.script) (eqb-true (length c.lines.script.rest.now) 0 (sym c.lines-test.ensures)) in
+    let none = lines_none (view store c.lines.script) (eqb-true (length c.lines.script.rest.now) 0 (sym c.lines-test.ensures)) in
     sym (append-nil front) ∙ ap (λ xs. front ++ concat xs) (sym none) ∙ c.lines.invariant.written
     ∙ ap concat (ap lines_left c.new-script.ensures ∙ lines_begun c.args.bytes.now)
 
@@ -89,7 +90,7 @@ returns-clause-short c =
 -- at the end no lines are to come that could be long
 each_short : (c : goal.After-lines) → EachShort (lines_of c.args.bytes.now)
 each_short c =
-    let none = lines_none (view c.lines.script) (eqb-true (length c.lines.script.rest.now) 0 (sym c.lines-test.ensures)) in
+    let none = lines_none (view store c.lines.script) (eqb-true (length c.lines.script.rest.now) 0 (sym c.lines-test.ensures)) in
     subst EachShort (ap lines_left c.new-script.ensures ∙ lines_begun c.args.bytes.now) (c.lines.invariant.each (subst EachShort (sym none) (All-nil (λ line. length line ≤ 96))))
 
 pub returns-clause-law : goal.returns-clause-law

@@ -1,7 +1,7 @@
 use Rattle.std.proofs.Common.{length, ap, arith}
 use Rattle.std.proofs.lemmas.List.{length-take}
 use Rattle.script.proofs.ListingSteps.{goes_on_as_script}
-use Rattle.script.proofs.listing.Listing.new.Goals as goal
+use Rattle.script.proofs.listing.Listing+C+K.new.Goals as goal
 
 pub invariant_of-result : goal.invariant_of-result
 invariant_of-result g c =

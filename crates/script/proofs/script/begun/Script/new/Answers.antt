@@ -1,6 +1,6 @@
 use Rattle.std.proofs.Common.{length, ap, arith}
 use Rattle.script.proofs.Stepping.{length_begun}
-use Rattle.script.proofs.script.Script.new.Goals as goal
+use Rattle.script.proofs.script.begun.Script.new.Goals as goal
 
 pub invariant_of-result : goal.invariant_of-result
 invariant_of-result c =
