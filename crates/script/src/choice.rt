@@ -7,13 +7,13 @@ use group::layout::{Draft, Layout};
 use stamps::refusal::Refusal;
 
 #[derive(Clone, Copy)]
-pub enum Clock {
+pub(crate) enum Clock {
     Raw,
     Hybrid,
 }
 
 #[derive(Clone, Copy)]
-pub enum Marks {
+pub(crate) enum Marks {
     One,
     Each,
 }

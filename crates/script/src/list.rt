@@ -54,6 +54,7 @@ fn write_lines(bytes: &[u8], buffer: &mut [u8]) -> usize
     ensures law { ListingLaw bytes.now (take result buffer.new) }
 {
     let mut script = Script::new(bytes);
+    // Where the next line goes, and at last the answer: the lines have no length in common.
     let mut end = 0;
     'lines: while !script.has_ended() {
         end += script.write_next(&mut buffer[end..]);
@@ -92,11 +93,9 @@ fn rest_after<'a>(bytes: &'a [u8], made: bool) -> &'a [u8]
 fn goes_on(command: Command, made: bool) -> bool
     ensures { result ≡ goes_on made command }
 {
-    if !made {
-        return makes_group(command);
-    }
-    match command {
-        Command::Layout { .. } => false,
-        _ => true,
+    if made {
+        !matches!(command, Command::Layout { .. })
+    } else {
+        makes_group(command)
     }
 }

@@ -1,4 +1,4 @@
-// What a script's commands are given to.
+// What obeys the commands of a script.
 ghost use Rattle.std.specs.Prelude.{◌≡◌, Result};
 ghost use Rattle.stamps.specs.declared.refusal.Refusal.{Refusal};
 ghost use Rattle.commands.specs.declared.command.Command.{Command};
@@ -15,9 +15,9 @@ use marks::mark_kind::MarkKind;
 use stamps::clock_rule::ClockRule;
 use stamps::refusal::Refusal;
 
-// A group, or what its first command makes one.
+// A group, or none before its layout.
 pub trait Obeys {
-    // What there is to know of it.
+    // What is known of it.
     ghost State: { Type 0 };
 
     ghost state: { Self → State };

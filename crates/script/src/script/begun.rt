@@ -1,5 +1,5 @@
 // The beginning of a script, and its first line.
-ghost use Rattle.std.specs.Prelude.{◌≡◌, take, IfOk};
+ghost use Rattle.std.specs.Prelude.{◌≡◌, ◌≤◌, length, take, IfOk};
 ghost use Rattle.script.specs.Scripts.{view, begun, first, line_into, AtMost96};
 ghost use Rattle.script.specs.Stores.{store};
 
@@ -12,14 +12,16 @@ pub const MOST_SCRIPT_BYTES: usize = 65_535;
 
 // The first bytes, at most so many.
 pub(crate) fn first_bytes<'a>(bytes: &'a [u8], most: usize) -> &'a [u8]
-    ensures { result.now ≡ take most bytes.now }
+    ensures bytes { result.now ≡ take most bytes.now }
+    ensures few { length result.now ≤ most }
 {
     &bytes[..bytes.len().min(most)]
 }
 
 // The bytes that are a script's.
 pub(crate) fn script_of<'a>(bytes: &'a [u8]) -> &'a [u8]
-    ensures { result.now ≡ (begun bytes.now).rest }
+    ensures rest { result.now ≡ (begun bytes.now).rest }
+    ensures few { length result.now ≤ 65535 }
 {
     first_bytes(bytes, MOST_SCRIPT_BYTES)
 }

@@ -3,14 +3,13 @@ use Rattle.std.proofs.Common.{◌+◌, false, length, sym, ap, arith}
 use Rattle.std.proofs.lemmas.Bool.{eqb-true, lt-ltb}
 use Rattle.script.specs.Scripts.{begun}
 use Rattle.script.proofs.Counts.{count_from, count_enough, count_few, count_none, count_turn, lines_count}
-use Rattle.script.proofs.Stepping.{length_begun, begun_within}
+use Rattle.script.proofs.Stepping.{begun_within}
 use Rattle.script.proofs.list.count_lines.Goals as goal
 
 pub overflow_add-count : goal.overflow_add-count
 overflow_add-count c =
     let few = count_few (length c.script_of-rest.result.now) false c.script_of-rest.result.now in
-    let short = length_begun c.args.bytes.now in
-    omega (arith, ap length c.script_of-rest.ensures, c.lines.invariant)
+    omega (arith, c.lines.invariant)
 
 pub lines-preserved : goal.lines-preserved
 lines-preserved c =
@@ -25,12 +24,11 @@ returns-clause-count c =
     let rest = c.script_of-rest.result.now in
     let none = count_none (nat_lt 0 c.lines.count) c.lines.rest.now (eqb-true (length c.lines.rest.now) 0 (sym c.lines-test.ensures)) in
     let within = begun_within bytes in
-    let enough = count_enough (length rest) (length bytes) false rest (omega arith) (omega (arith, ap length c.script_of-rest.ensures)) in
+    let enough = count_enough (length rest) (length bytes) false rest (omega arith) (omega (arith, ap length c.script_of-rest.ensures.rest)) in
     let whole = lines_count (length bytes) (begun bytes) in
-    omega (arith, none, c.lines.invariant, enough, whole, ap (count_from (length bytes) false) c.script_of-rest.ensures)
+    omega (arith, none, c.lines.invariant, enough, whole, ap (count_from (length bytes) false) c.script_of-rest.ensures.rest)
 
 pub returns-clause-few : goal.returns-clause-few
 returns-clause-few c =
     let few = count_few (length c.script_of-rest.result.now) false c.script_of-rest.result.now in
-    let short = length_begun c.args.bytes.now in
-    omega (arith, ap length c.script_of-rest.ensures, c.lines.invariant)
+    omega (arith, c.lines.invariant)
