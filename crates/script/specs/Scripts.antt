@@ -33,11 +33,6 @@ begun bytes = record { rest = take 65535 bytes; lines = 0; group = unmade }
 abbrev pub ended_by : {S : Type 0} → ScriptState S → Refusal → Said × ScriptState S
 ended_by s why = (refused why, record { rest = []; lines = s.lines; group = s.group })
 
--- an answer, or the refusal that ends the listing
-abbrev pub closed : {S : Type 0} → Result Said Refusal × ScriptState S → Said × ScriptState S
-closed (Ok answer, s) = (answer, s)
-closed (Err why, s) = ended_by s why
-
 -- a command was obeyed, or has ended the listing
 abbrev pub stepped_to : {S : Type 0} → ScriptState S → List ℕ → Result Said Refusal × S → Said × ScriptState S
 stepped_to s rest (Ok answer, g) = (answer, record { rest = rest; lines = s.lines; group = g })

@@ -1,5 +1,5 @@
 -- A group of any clock rule and kind of mark, or none yet, and what a command does to it.
-use Rattle.std.specs.Prelude.{ℕ, cond, Some, None, Ok, Err, Option, Result, ◌==◌}
+use Rattle.std.specs.Prelude.{ℕ, cond, Ok, Err, Result, ◌==◌}
 use Rattle.stamps.specs.declared.refusal.Refusal.{Refusal}
 use Rattle.stamps.specs.declared.refusal.Refusal.TheVariants.{BadLayout, LayoutMisplaced}
 use Rattle.stamps.specs.Clocks as clocks
@@ -14,7 +14,7 @@ use Rattle.group.specs.Layouts.{checked_counts}
 use Rattle.commands.specs.declared.command.Command.{Command}
 use Rattle.commands.specs.declared.command.Command.TheVariants.{Layout, OpenSession, Tell, Put, Get, Heartbeat, Deliver, Report, Stabilise, Tidy, Lead, View}
 use Rattle.script.specs.declared.any_group.AnyGroup.{AnyGroup}
-use Rattle.script.specs.declared.any_group.AnyGroup.TheVariants.{RawOne, RawEach, HybridOne, HybridEach}
+use Rattle.script.specs.declared.any_group.AnyGroup.TheVariants.{Unmade, RawOne, RawEach, HybridOne, HybridEach}
 use Rattle.script.specs.declared.choice.Choice.{Choice}
 use Rattle.script.specs.declared.choice.Clock.{Clock}
 use Rattle.script.specs.declared.choice.Clock.TheVariants.{Raw, Hybrid}
@@ -36,15 +36,12 @@ pub data Store : Type 0 where
   unmade : Store
   made : Clock → Marks → GroupState → Store
 
-abbrev pub group_store : AnyGroup → Store
-group_store (RawOne g) = made Raw One (group.view g)
-group_store (RawEach g) = made Raw Each (group.view g)
-group_store (HybridOne g) = made Hybrid One (group.view g)
-group_store (HybridEach g) = made Hybrid Each (group.view g)
-
-abbrev pub store : Option AnyGroup → Store
-store None = unmade
-store (Some g) = group_store g
+abbrev pub store : AnyGroup → Store
+store Unmade = unmade
+store (RawOne g) = made Raw One (group.view g)
+store (RawEach g) = made Raw Each (group.view g)
+store (HybridOne g) = made Hybrid One (group.view g)
+store (HybridEach g) = made Hybrid Each (group.view g)
 
 -- the letters of the clock rules: 82 is R, 72 is H
 abbrev pub clock_of : ℕ → Result Clock Refusal
@@ -76,8 +73,8 @@ chosen_store choice = made choice.clock choice.marks (model.made choice.layout.s
 
 -- the store of what was made, or the refusal
 abbrev pub store_as : {A : Type 0} → (A → Store) → Result A Refusal → Result Store Refusal
-store_as store (Ok x) = Ok (store x)
-store_as store (Err why) = Err why
+store_as of (Ok x) = Ok (of x)
+store_as of (Err why) = Err why
 
 -- a first command is done if it makes a group
 abbrev pub opens : Result Store Refusal → Result Said Refusal × Store

@@ -1,8 +1,8 @@
-// A group of any of the clock rules and kinds of mark that are built. A script has none before its layout.
+// A group of any of the clock rules and kinds of mark that are built, or none yet.
 ghost use Rattle.std.specs.Prelude.{◌≡◌, is_ok};
 ghost use Rattle.script.specs.Kept.{Keeps, KeepsOr};
 ghost use Rattle.script.specs.Steps.{said_or};
-ghost use Rattle.script.specs.Stores.{Store, obeyed, made_store, chosen_store, group_store, store, store_as, opens, unmade};
+ghost use Rattle.script.specs.Stores.{Store, obeyed, made_store, chosen_store, store, store_as, opens, unmade};
 
 use crate::answer::Answer;
 use crate::choice::{Choice, Clock, Marks};
@@ -18,13 +18,15 @@ use stamps::refusal::Refusal;
 
 #[derive(Drop)]
 pub enum AnyGroup {
+    // No group was made. With an `Option` around the groups each command would be copied once more.
+    Unmade,
     RawOne(Group<Raw, One>),
     RawEach(Group<Raw, Each>),
     HybridOne(Group<Hybrid, One>),
     HybridEach(Group<Hybrid, Each>),
 }
 
-impl Obeys for Option<AnyGroup> {
+impl Obeys for AnyGroup {
     ghost State = { Store };
 
     ghost state = { store };
@@ -32,18 +34,8 @@ impl Obeys for Option<AnyGroup> {
     ghost obeying = { obeyed };
 
     fn obey(&mut self, command: Command) -> Result<Answer, Refusal> {
-        match self.as_mut() {
-            Some(group) => group.perform(command),
-            None => make(self, command),
-        }
-    }
-}
-
-impl AnyGroup {
-    fn perform(&mut self, command: Command) -> Result<Answer, Refusal>
-        ensures { (said_or result, group_store self.new) ≡ obeyed (group_store self.old) command }
-    {
         match self {
+            AnyGroup::Unmade => self.make(command),
             AnyGroup::RawOne(group) => perform(group, command),
             AnyGroup::RawEach(group) => perform(group, command),
             AnyGroup::HybridOne(group) => perform(group, command),
@@ -52,29 +44,31 @@ impl AnyGroup {
     }
 }
 
-// Makes the group of the first command. It is kept out of `obey`, which would pay for its large locals at each command.
-#[inline(never)]
-fn make(group: &mut Option<AnyGroup>, command: Command) -> Result<Answer, Refusal>
-    requires { store group.old ≡ unmade }
-    ensures { (said_or result, store group.new) ≡ opens (made_store command) }
-{
-    *group = Some(make_group(command)?);
-    Ok(Answer::Done)
+impl AnyGroup {
+    // Makes the group of the first command. It is kept out of `obey`, which would pay for its large locals at each command.
+    #[inline(never)]
+    fn make(&mut self, command: Command) -> Result<Answer, Refusal>
+        requires { store self.old ≡ unmade }
+        ensures { (said_or result, store self.new) ≡ opens (made_store command) }
+    {
+        *self = make_group(command)?;
+        Ok(Answer::Done)
+    }
 }
 
 // The group that a script's first command makes. From here on it keeps the promises, whichever clock rule and kind of mark
 // it has.
 pub(crate) fn make_group(command: Command) -> Result<AnyGroup, Refusal>
-    ensures value { store_as group_store result ≡ made_store command }
-    ensures promises { KeepsOr (store_as group_store result) }
+    ensures value { store_as store result ≡ made_store command }
+    ensures promises { KeepsOr (store_as store result) }
 {
     Ok(group_of(Choice::try_from(command)?))
 }
 
 // A new group as it was chosen.
 fn group_of(choice: Choice) -> AnyGroup
-    ensures value { group_store result ≡ chosen_store choice }
-    ensures promises { Keeps (group_store result) }
+    ensures value { store result ≡ chosen_store choice }
+    ensures promises { Keeps (store result) }
 {
     let layout = choice.layout;
     match (choice.clock, choice.marks) {

@@ -13,7 +13,7 @@ pub struct ScriptOver<'a, G> {
 }
 
 // A whole script, whose layout makes its group.
-pub type Script<'a> = ScriptOver<'a, Option<AnyGroup>>;
+pub type Script<'a> = ScriptOver<'a, AnyGroup>;
 
 mod begun;
 mod calls;

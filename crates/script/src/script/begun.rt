@@ -4,6 +4,7 @@ ghost use Rattle.script.specs.Scripts.{view, begun, first, line_into, AtMost96};
 ghost use Rattle.script.specs.Stores.{store};
 
 use super::{Script, ScriptOver};
+use crate::any_group::AnyGroup;
 use crate::line::MOST_BYTES;
 use stamps::refusal::Refusal;
 
@@ -33,7 +34,7 @@ impl<'a> Script<'a> {
         ScriptOver {
             rest: script_of(bytes),
             lines: 0,
-            group: None,
+            group: AnyGroup::Unmade,
         }
     }
 

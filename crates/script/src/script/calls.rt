@@ -1,8 +1,7 @@
 // The next line of a script, over whatever obeys its commands.
 ghost use Rattle.std.specs.Prelude.{◌≡◌, ◌<◌, ◌≤◌, length, ◌==◌, IfOk, Ok as Listed, Some as Line};
 ghost use Rattle.script.specs.Answers.{said};
-ghost use Rattle.script.specs.Scripts.{view, closed, stepped, next, written, line_into, AtMost96};
-ghost use Rattle.script.specs.Steps.{said_or};
+ghost use Rattle.script.specs.Scripts.{view, ended_by, stepped, next, written, line_into, AtMost96};
 
 use super::ScriptOver;
 use crate::answer::Answer;
@@ -45,29 +44,30 @@ impl<'a, G: Obeys> ScriptOver<'a, G> {
         write_line(buffer, self.lines, letter, answer)
     }
 
-    // Performs the next command. Nothing is listed after a refusal that ends the listing.
+    // Performs the next command. The answer is returned where it comes: with a `?` it would be copied once more.
     fn step(&mut self) -> Answer
         requires { 0 < length self.old.rest.now }
         ensures step { (said result, view G.state self.new) ≡ stepped G.obeying (view G.state self.old) }
         ensures shorter { length self.new.rest.now < length self.old.rest.now }
     {
-        match self.obey_next() {
-            Ok(answer) => answer,
-            Err(why) => {
-                self.rest = &[];
-                Answer::Refused(why)
+        let (command, rest) = match read(self.rest) {
+            Ok(first) => first,
+            Err(why) => return self.end(why),
+        };
+        match self.group.obey(command) {
+            Ok(answer) => {
+                self.rest = rest;
+                answer
             }
+            Err(why) => self.end(why),
         }
     }
 
-    // The answer of the next command, or the refusal that ends the listing.
-    fn obey_next(&mut self) -> Result<Answer, Refusal>
-        ensures step { closed (said_or result, view G.state self.new) ≡ stepped G.obeying (view G.state self.old) }
-        ensures shorter { IfOk result (λ _. length self.new.rest.now < length self.old.rest.now) }
+    // Nothing is listed after this refusal.
+    fn end(&mut self, why: Refusal) -> Answer
+        ensures { (said result, view G.state self.new) ≡ ended_by (view G.state self.old) why }
     {
-        let (command, rest) = read(self.rest)?;
-        let answer = self.group.obey(command)?;
-        self.rest = rest;
-        Ok(answer)
+        self.rest = &[];
+        Answer::Refused(why)
     }
 }
