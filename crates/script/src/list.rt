@@ -54,7 +54,7 @@ fn write_lines(bytes: &[u8], buffer: &mut [u8]) -> usize
     ensures law { ListingLaw bytes.now (take result buffer.new) }
 {
     let mut script = Script::new(bytes);
-    // Where the next line goes, and at last the answer: the lines have no length in common.
+    // Where the next line goes. Only a line that is written has a length, so no iterator cuts the buffer for the lines.
     let mut end = 0;
     'lines: while !script.has_ended() {
         end += script.write_next(&mut buffer[end..]);
@@ -70,7 +70,7 @@ fn count_lines(bytes: &[u8]) -> usize
     let mut rest = script_of(bytes);
     let mut count = 0;
     'lines: while !rest.is_empty() {
-        // The first command has made the group.
+        // After the first command there is a group.
         rest = rest_after(rest, count > 0);
         count += 1;
     }

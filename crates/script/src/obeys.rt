@@ -15,7 +15,7 @@ use marks::mark_kind::MarkKind;
 use stamps::clock_rule::ClockRule;
 use stamps::refusal::Refusal;
 
-// A group, or none before its layout.
+// A group, or what a layout makes one.
 pub trait Obeys {
     // What is known of it.
     ghost State: { Type 0 };

@@ -1,4 +1,4 @@
-use Rattle.std.proofs.Common.{◌≡◌, ◌-◌, ◌<◌, ◌≤◌, ◌++◌, length, take, drop, sym, refl, ap, subst, ◌∙◌, arith}
+use Rattle.std.proofs.Common.{◌≡◌, ◌-◌, ◌<◌, ◌≤◌, ◌++◌, [], length, take, drop, sym, refl, ap, subst, ◌∙◌, arith}
 use Rattle.std.specs.List.{concat}
 use Rattle.std.proofs.lemmas.Bool.{eqb-false, eqb-true}
 use Rattle.std.proofs.lemmas.List.{append_assoc, append-nil, length-take-le, take-append-drop, take_rest, length-drop}
@@ -62,13 +62,19 @@ lines-preserved c =
       short = omega (arith, ap length turn, c.lines.invariant.short, c.write_next-end.ensures.short);
     }
 
--- at the end no lines are to come, so what is written is the listing
+-- at the end no lines are to come
+none_to_come : (c : goal.After-lines) → lines_left (view store c.lines.script) ≡ []
+none_to_come c = lines_none (view store c.lines.script) (eqb-true (length c.lines.script.rest.now) 0 (sym c.lines-test.ensures))
+
+-- and all lines of the script were to come
+all_to_come : (c : goal.After-lines) → lines_left (view store c.new-script.result) ≡ lines_of c.args.bytes.now
+all_to_come c = ap lines_left c.new-script.ensures ∙ lines_begun c.args.bytes.now
+
+-- so what is written is the listing
 all_written : (c : goal.After-lines) → take c.lines.end c.lines.buffer ≡ listing c.args.bytes.now
 all_written c =
     let front = take c.lines.end c.lines.buffer in
-    let none = lines_none (view store c.lines.script) (eqb-true (length c.lines.script.rest.now) 0 (sym c.lines-test.ensures)) in
-    sym (append-nil front) ∙ ap (λ xs. front ++ concat xs) (sym none) ∙ c.lines.invariant.written
-    ∙ ap concat (ap lines_left c.new-script.ensures ∙ lines_begun c.args.bytes.now)
+    sym (append-nil front) ∙ ap (λ xs. front ++ concat xs) (sym (none_to_come c)) ∙ c.lines.invariant.written ∙ ap concat (all_to_come c)
 
 length_written : (c : goal.After-lines) → c.lines.end ≡ length (listing c.args.bytes.now)
 length_written c = sym (length-take-le c.lines.end c.lines.buffer (omega (arith, c.lines.invariant.room))) ∙ ap length (all_written c)
@@ -83,15 +89,11 @@ returns-clause-text c =
     ∙ ap (λ xs. text ++ xs) (c.lines.invariant.behind ∙ ap (λ n. drop n c.args.buffer.now) (length_written c))
 
 pub returns-clause-short : goal.returns-clause-short
-returns-clause-short c =
-    let all = ap length (ap lines_left c.new-script.ensures ∙ lines_begun c.args.bytes.now) in
-    omega (arith, all, c.lines.invariant.short)
+returns-clause-short c = omega (arith, ap length (all_to_come c), c.lines.invariant.short)
 
 -- at the end no lines are to come that could be long
 each_short : (c : goal.After-lines) → EachShort (lines_of c.args.bytes.now)
-each_short c =
-    let none = lines_none (view store c.lines.script) (eqb-true (length c.lines.script.rest.now) 0 (sym c.lines-test.ensures)) in
-    subst EachShort (ap lines_left c.new-script.ensures ∙ lines_begun c.args.bytes.now) (c.lines.invariant.each (subst EachShort (sym none) (All-nil (λ line. length line ≤ 96))))
+each_short c = subst EachShort (all_to_come c) (c.lines.invariant.each (subst EachShort (sym (none_to_come c)) (All-nil (λ line. length line ≤ 96))))
 
 pub returns-clause-law : goal.returns-clause-law
 returns-clause-law c =
