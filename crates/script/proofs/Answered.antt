@@ -55,26 +55,26 @@ not_read rest h ends = by_read (read_command rest) refl
     by_read (Ok p) e = let w = read_written rest p h e in absurd (ends p.0 p.1 w.0 w.1)
 
 -- the lines that follow, from the step
-lines_step : (s : ScriptState) (letter : ℕ) (outcome : Said × ScriptState) → 0 < length s.rest → get_or s.rest 0 0 ≡ letter → stepped s ≡ outcome
+lines_step : (s : ScriptState Store) (letter : ℕ) (outcome : Said × ScriptState Store) → 0 < length s.rest → get_or s.rest 0 0 ≡ letter → stepped obeyed s ≡ outcome
     → lines_left s ≡ (numbered letter outcome).0 ∷ lines_left (numbered letter outcome).1
 lines_step s letter outcome some first is =
-    lines_turn s (numbered letter outcome).1 (numbered letter outcome).0 (sym (next_is s letter some first) ∙ ap (λ o. Some (numbered letter o)) is)
+    lines_turn s (numbered letter outcome).1 (numbered letter outcome).0 (sym (next_is obeyed s letter some first) ∙ ap (λ o. Some (numbered letter o)) is)
 
 -- a refusal that ends the listing is its last line
-lines_end : (s : ScriptState) (letter : ℕ) (rest : List ℕ) (store : Store) (why : Refusal) → 0 < length s.rest → get_or s.rest 0 0 ≡ letter
-    → stepped s ≡ ended_by (record { rest = rest; lines = s.lines; store = store }) why → lines_left s ≡ line_of (s.lines + 1) letter (refused why) ∷ []
+lines_end : (s : ScriptState Store) (letter : ℕ) (rest : List ℕ) (store : Store) (why : Refusal) → 0 < length s.rest → get_or s.rest 0 0 ≡ letter
+    → stepped obeyed s ≡ ended_by (record { rest = rest; lines = s.lines; group = store }) why → lines_left s ≡ line_of (s.lines + 1) letter (refused why) ∷ []
 lines_end s letter rest store why some first is =
-    let ended : ScriptState = record { rest = rest; lines = s.lines; store = store } in
+    let ended : ScriptState Store = record { rest = rest; lines = s.lines; group = store } in
     lines_step s letter (ended_by ended why) some first is
     ∙ ap (λ more. line_of (s.lines + 1) letter (refused why) ∷ more) (lines_none (numbered letter (ended_by ended why)).1 refl)
 
 -- the lines of a rest that begins no command
-rest_lines : (s : ScriptState) (rest : List ℕ) → s.rest ≡ rest → Bytes rest → ((command : Command) (after : List ℕ) → Lawful command → rest ≡ written command ++ after → ⊥)
+rest_lines : (s : ScriptState Store) (rest : List ℕ) → s.rest ≡ rest → Bytes rest → ((command : Command) (after : List ℕ) → Lawful command → rest ≡ written command ++ after → ⊥)
     → lines_left s ≡ listed_lines (s.lines + 1) (rest_answers rest)
 rest_lines s [] is h ends = lines_none s (ap length is)
 rest_lines s (b ∷ bytes) is h ends =
     let no = not_read (b ∷ bytes) h ends in
-    lines_end s b s.rest s.store no.0 (omega (arith, ap length is)) (ap (λ r. get_or r 0 0) is) (ap (stepped_by s) (ap read_command is ∙ no.1))
+    lines_end s b s.rest s.group no.0 (omega (arith, ap length is)) (ap (λ r. get_or r 0 0) is) (ap (stepped_by obeyed s) (ap read_command is ∙ no.1))
     ∙ ap (λ why. line_of (s.lines + 1) b (refused why) ∷ []) (read_refused b bytes no.0 no.1)
 
 -- bytes after bytes
@@ -82,28 +82,28 @@ bytes_after : (front rest : List ℕ) → Bytes (front ++ rest) → Bytes rest
 bytes_after front rest h i = let at = get_or-append-add front rest i 0 in let byte = h (length front + i) in omega arith
 
 -- the lines of a command that is read, and of what comes after it
-command_lines : (command : Command) (left : List ℕ) (s : ScriptState) (more : Store → List (ℕ × Said)) → Lawful command → s.rest ≡ written command ++ left
-    → ((store : Store) → lines_left (record { rest = left; lines = s.lines + 1; store = store }) ≡ listed_lines (s.lines + 1 + 1) (more store))
-    → lines_left s ≡ listed_lines (s.lines + 1) (answers_from (letter_of command) more (obeyed s.store command))
-command_lines command left s more lawful is then = by_outcome (obeyed s.store command) refl
+command_lines : (command : Command) (left : List ℕ) (s : ScriptState Store) (more : Store → List (ℕ × Said)) → Lawful command → s.rest ≡ written command ++ left
+    → ((store : Store) → lines_left (record { rest = left; lines = s.lines + 1; group = store }) ≡ listed_lines (s.lines + 1 + 1) (more store))
+    → lines_left s ≡ listed_lines (s.lines + 1) (answers_from (letter_of command) more (obeyed s.group command))
+command_lines command left s more lawful is then = by_outcome (obeyed s.group command) refl
   where
-    by_answer : (outcome : Result Said Refusal × Store) → 0 < length s.rest → get_or s.rest 0 0 ≡ letter_of command → stepped s ≡ stepped_to s left outcome
+    by_answer : (outcome : Result Said Refusal × Store) → 0 < length s.rest → get_or s.rest 0 0 ≡ letter_of command → stepped obeyed s ≡ stepped_to s left outcome
         → lines_left s ≡ listed_lines (s.lines + 1) (answers_from (letter_of command) more outcome)
     by_answer (Ok answer, store) some first step =
-        lines_step s (letter_of command) (answer, record { rest = left; lines = s.lines; store = store }) some first step
+        lines_step s (letter_of command) (answer, record { rest = left; lines = s.lines; group = store }) some first step
         ∙ ap (λ lines. line_of (s.lines + 1) (letter_of command) answer ∷ lines) (then store)
     by_answer (Err why, store) some first step = lines_end s (letter_of command) s.rest store why some first step
 
-    by_outcome : (outcome : Result Said Refusal × Store) → outcome ≡ obeyed s.store command → lines_left s ≡ listed_lines (s.lines + 1) (answers_from (letter_of command) more outcome)
+    by_outcome : (outcome : Result Said Refusal × Store) → outcome ≡ obeyed s.group command → lines_left s ≡ listed_lines (s.lines + 1) (answers_from (letter_of command) more outcome)
     by_outcome outcome e =
         let some : 0 < length s.rest = omega (arith, ap length is, length-append (written command) left, some_written command) in
         let first : get_or s.rest 0 0 ≡ letter_of command = ap (λ r. get_or r 0 0) is ∙ get_or_append_left (written command) left 0 0 (some_written command) in
-        let step = sym (read_obeyed s command left outcome (sym (ap read_command is ∙ written_read command left lawful)) e) in
+        let step = sym (read_obeyed obeyed s command left outcome (sym (ap read_command is ∙ written_read command left lawful)) e) in
         by_answer outcome some first step
 
 -- the lines of commands and a rest are those of what they answer
-answered_lines : (commands : List Command) (rest : List ℕ) (s : ScriptState) → IsScript s.rest commands rest → Bytes s.rest
-    → lines_left s ≡ listed_lines (s.lines + 1) (answers s.store commands rest)
+answered_lines : (commands : List Command) (rest : List ℕ) (s : ScriptState Store) → IsScript s.rest commands rest → Bytes s.rest
+    → lines_left s ≡ listed_lines (s.lines + 1) (answers s.group commands rest)
 answered_lines [] rest s i h = rest_lines s rest i.bytes (let same : Bytes rest = rw (← i.bytes) h in same) i.ends
 answered_lines (command ∷ commands) rest s i h =
     let left = concat (map written commands) ++ rest in
@@ -111,7 +111,7 @@ answered_lines (command ∷ commands) rest s i h =
     let later : IsScript left commands rest = record { lawful = All-tail Lawful command commands i.lawful; bytes = refl; ends = i.ends } in
     let all : Bytes (written command ++ left) = rw (← whole) h in
     command_lines command left s (λ store. answers store commands rest) (All-head Lawful command commands i.lawful) whole
-    (λ store. answered_lines commands rest (record { rest = left; lines = s.lines + 1; store = store }) later (bytes_after (written command) left all))
+    (λ store. answered_lines commands rest (record { rest = left; lines = s.lines + 1; group = store }) later (bytes_after (written command) left all))
 
 -- every script is commands and a rest
 every_script : (n : ℕ) (script : List ℕ) → length script < n → Bytes script → (commands : List Command) × (rest : List ℕ) × IsScript script commands rest

@@ -1,21 +1,21 @@
 -- How many lines a listing has, from the commands alone.
 use Rattle.std.proofs.Common.{◌≡◌, ℕ, zero, suc, ◌+◌, ◌<◌, ◌≤◌, Bool, true, false, cond, List, [], ◌∷◌, length, Ok, Err, Result, refl, ap, ◌∙◌, arith}
-use Rattle.std.specs.Prelude.{◌==◌, is_ok}
+use Rattle.std.specs.Prelude.{is_ok}
 use Rattle.std.proofs.lemmas.Bool.{cond_both}
 use Rattle.stamps.specs.declared.refusal.Refusal.{Refusal}
-use Rattle.stamps.specs.declared.refusal.Refusal.TheVariants.{BadLayout}
 use Rattle.stamps.specs.Outside.{and_then}
-use Rattle.model.specs.Groups as model
 use Rattle.model.specs.Groups.{GroupState}
 use Rattle.group.specs.Layouts.{checked_counts}
 use Rattle.commands.specs.declared.command.Command.{Command}
 use Rattle.commands.specs.declared.command.Command.TheVariants.{Layout, OpenSession, Tell, Put, Get, Heartbeat, Deliver, Report, Stabilise, Tidy, Lead, View}
 use Rattle.commands.specs.Commands.{read_command}
 use Rattle.commands.proofs.Shorter.{read_shorter}
+use Rattle.script.specs.declared.choice.Clock.{Clock}
+use Rattle.script.specs.declared.choice.Marks.{Marks}
 use Rattle.script.specs.Counting.{goes_on, left_after, left_by}
 use Rattle.script.specs.Scripts.{ScriptState, begun, lines_after, lines_from, next_at, numbered, stepped, stepped_by, stepped_to}
 use Rattle.script.proofs.Stepping.{begun_within, length_begun}
-use Rattle.script.specs.Stores.{Clock, raw, hybrid, Marks, one, each, Store, unmade, made, made_store, obeyed, opens, with_clock, with_marks}
+use Rattle.script.specs.Stores.{Store, unmade, made, clock_of, marks_of, made_store, obeyed, opens}
 
 -- whether a group was made
 abbrev pub is_made : Store → Bool
@@ -29,8 +29,8 @@ count_from (suc n) m [] = 0
 count_from (suc n) m (b ∷ bytes) = suc (count_from n true (left_after m (b ∷ bytes)))
 
 -- what goes on after a command: nothing is left, or a group was made
-abbrev pub GoesOnMade : ScriptState → Type 0
-GoesOnMade s = (n : ℕ) → count_from n (is_made s.store) s.rest ≡ count_from n true s.rest
+abbrev pub GoesOnMade : ScriptState Store → Type 0
+GoesOnMade s = (n : ℕ) → count_from n (is_made s.group) s.rest ≡ count_from n true s.rest
 
 none_left : (m : Bool) (n : ℕ) → count_from n m [] ≡ count_from n true []
 none_left m zero = refl
@@ -41,21 +41,13 @@ abbrev MadeOr : Result Store Refusal → Type 0
 MadeOr (Ok s) = is_made s ≡ true
 MadeOr (Err why) = Unit {0}
 
-made_marked : (clock : Clock) (letter : ℕ) (g : GroupState) → MadeOr (with_marks clock letter g)
-made_marked clock letter g =
-    cond_both (letter == 79) (Ok (made clock one g)) _ MadeOr (λ _. refl) (λ _. cond_both (letter == 69) (Ok (made clock each g)) (Err BadLayout) MadeOr (λ _. refl) (λ _. tt))
-
-made_clocked : (letter marks : ℕ) (g : GroupState) → MadeOr (with_clock letter marks g)
-made_clocked letter marks g =
-    cond_both (letter == 82) (with_marks raw marks g) _ MadeOr (λ _. made_marked raw marks g)
-    (λ _. cond_both (letter == 72) (with_marks hybrid marks g) (Err BadLayout) MadeOr (λ _. made_marked hybrid marks g) (λ _. tt))
-
-with_counts : (r : Result (ℕ × ℕ) Refusal) (f : ℕ × ℕ → Result Store Refusal) → ((x : ℕ × ℕ) → MadeOr (f x)) → MadeOr (and_then r f)
-with_counts (Ok x) f h = h x
-with_counts (Err why) f h = tt
+with_made : {A : Type 0} (r : Result A Refusal) (f : A → Result Store Refusal) → ((x : A) → MadeOr (f x)) → MadeOr (and_then r f)
+with_made (Ok x) f h = h x
+with_made (Err why) f h = tt
 
 made_or : (command : Command) → MadeOr (made_store command)
-made_or (Layout sites partitions clock marks) = with_counts (checked_counts sites partitions) (λ counts. with_clock clock marks (model.made counts.0 counts.1)) (λ counts. made_clocked clock marks (model.made counts.0 counts.1))
+made_or (Layout sites partitions clock marks) =
+    with_made (checked_counts sites partitions) _ (λ counts. with_made (clock_of clock) _ (λ rule. with_made (marks_of marks) _ (λ kind. refl)))
 made_or (OpenSession site) = tt
 made_or (Tell site partition time) = tt
 made_or (Put session key kind amount) = tt
@@ -69,16 +61,16 @@ made_or (Lead site partition) = tt
 made_or (View session partition first second) = tt
 
 -- what a step leaves is what the commands alone leave
-pub record Follows (left : List ℕ) (after : ScriptState) : Type 0 where
+pub record Follows (left : List ℕ) (after : ScriptState Store) : Type 0 where
   pub rest : after.rest ≡ left
   pub goes_on_lem : GoesOnMade after
 
-first_follows : (s : ScriptState) (rest : List ℕ) (m : Result Store Refusal) → MadeOr m → Follows (cond (is_ok m) rest []) (stepped_to s rest (opens m)).1
+first_follows : (s : ScriptState Store) (rest : List ℕ) (m : Result Store Refusal) → MadeOr m → Follows (cond (is_ok m) rest []) (stepped_to s rest (opens m)).1
 first_follows s rest (Err why) h = record { rest = refl; goes_on_lem = none_left false }
 first_follows s rest (Ok unmade) h = absurd cc
 first_follows s rest (Ok (made clock marks g)) h = record { rest = refl; goes_on_lem = λ n. refl }
 
-made_follows : (s : ScriptState) (rest : List ℕ) (clock : Clock) (marks : Marks) (g : GroupState) (command : Command)
+made_follows : (s : ScriptState Store) (rest : List ℕ) (clock : Clock) (marks : Marks) (g : GroupState) (command : Command)
     → Follows (cond (goes_on true command) rest []) (stepped_to s rest (obeyed (made clock marks g) command)).1
 made_follows s rest clock marks g (Layout sites partitions c m) = record { rest = refl; goes_on_lem = λ n. refl }
 made_follows s rest clock marks g (OpenSession site) = record { rest = refl; goes_on_lem = λ n. refl }
@@ -93,29 +85,29 @@ made_follows s rest clock marks g (Tidy site partition) = record { rest = refl; 
 made_follows s rest clock marks g (Lead site partition) = record { rest = refl; goes_on_lem = λ n. refl }
 made_follows s rest clock marks g (View session partition first second) = record { rest = refl; goes_on_lem = λ n. refl }
 
-pub step_follows : (s : ScriptState) → Follows (left_after (is_made s.store) s.rest) (stepped s).1
+pub step_follows : (s : ScriptState Store) → Follows (left_after (is_made s.group) s.rest) (stepped obeyed s).1
 step_follows s = by_read (read_command s.rest)
   where
     obeys : (st : Store) (command : Command) (rest : List ℕ) → Follows (cond (goes_on (is_made st) command) rest []) (stepped_to s rest (obeyed st command)).1
     obeys unmade command rest = first_follows s rest (made_store command) (made_or command)
     obeys (made clock marks g) command rest = made_follows s rest clock marks g command
 
-    by_read : (r : Result (Command × List ℕ) Refusal) → Follows (left_by (is_made s.store) r) (stepped_by s r).1
-    by_read (Err why) = record { rest = refl; goes_on_lem = λ n. none_left (is_made s.store) n }
-    by_read (Ok (command, rest)) = obeys s.store command rest
+    by_read : (r : Result (Command × List ℕ) Refusal) → Follows (left_by (is_made s.group) r) (stepped_by obeyed s r).1
+    by_read (Err why) = record { rest = refl; goes_on_lem = λ n. none_left (is_made s.group) n }
+    by_read (Ok (command, rest)) = obeys s.group command rest
 
 -- the listing has as many lines as the commands alone say
-pub lines_count : (n : ℕ) (s : ScriptState) → length (lines_from n s) ≡ count_from n (is_made s.store) s.rest
+pub lines_count : (n : ℕ) (s : ScriptState Store) → length (lines_from n s) ≡ count_from n (is_made s.group) s.rest
 lines_count zero s = refl
 lines_count (suc n) s = by_rest s.rest refl (lines_count n)
   where
-    by_rest : (bytes : List ℕ) → s.rest ≡ bytes → ((after : ScriptState) → length (lines_from n after) ≡ count_from n (is_made after.store) after.rest)
-        → length (lines_after (lines_from n) (next_at s bytes)) ≡ count_from (suc n) (is_made s.store) bytes
+    by_rest : (bytes : List ℕ) → s.rest ≡ bytes → ((after : ScriptState Store) → length (lines_from n after) ≡ count_from n (is_made after.group) after.rest)
+        → length (lines_after (lines_from n) (next_at obeyed s bytes)) ≡ count_from (suc n) (is_made s.group) bytes
     by_rest [] e more = refl
     by_rest (b ∷ bytes) e more =
-        let after = (numbered b (stepped s)).1 in
+        let after = (numbered b (stepped obeyed s)).1 in
         let f = step_follows s in
-        ap (λ k. suc k) (more after ∙ f.goes_on_lem n ∙ ap (count_from n true) (f.rest ∙ ap (left_after (is_made s.store)) e))
+        ap (λ k. suc k) (more after ∙ f.goes_on_lem n ∙ ap (count_from n true) (f.rest ∙ ap (left_after (is_made s.group)) e))
 
 -- what is left after a command is shorter
 pub left_shorter : (m : Bool) (bytes : List ℕ) → 0 < length bytes → length (left_after m bytes) < length bytes

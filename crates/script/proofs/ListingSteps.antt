@@ -1,49 +1,36 @@
--- Steps of a listing over a group that the caller made.
+-- How a script goes on as the listing over the group that its layout made.
 use Rattle.std.proofs.Common.{◌≡◌, ℕ, ◌+◌, List, [], ◌∷◌, ◌++◌, length, get_or, take, Some, Ok, Err, Result, sym, refl, ap, ◌∙◌, arith}
 use Rattle.std.proofs.Math.Seq.{take-append-add}
 use Rattle.std.proofs.lemmas.List.{length-append}
 use Rattle.stamps.specs.declared.refusal.Refusal.{Refusal}
-use Rattle.marks.specs.Kinds.{Kind}
-use Rattle.servers.specs.Servers.{Rule}
 use Rattle.model.specs.Groups.{GroupState}
 use Rattle.commands.specs.declared.command.Command.{Command}
 use Rattle.commands.specs.declared.command.Command.TheVariants.{Layout}
 use Rattle.commands.specs.Commands.{read_command}
 use Rattle.commands.specs.Writing.{Lawful, written}
 use Rattle.commands.proofs.Written.{written_read}
+use Rattle.script.specs.declared.choice.Clock.{Clock}
+use Rattle.script.specs.declared.choice.Marks.{Marks}
 use Rattle.script.specs.Answers.{Said, done}
 use Rattle.script.specs.Lines.{line_of}
-use Rattle.script.specs.Listings.{GoesOnAsScript, ListingState, after_layout, as_script, line_as_script, next, next_at, numbered, performed_to, stepped, stepped_with}
-use Rattle.script.specs.Scripts as script
-use Rattle.script.specs.Scripts.{ScriptState, begun}
+use Rattle.script.specs.Listings.{GoesOnAsScript, after_layout, as_script, line_as_script}
+use Rattle.script.specs.Scripts.{Obeying, ScriptState, begun, next, next_at, numbered, stepped, stepped_by, stepped_to}
 use Rattle.script.specs.Steps.{performed}
-use Rattle.script.specs.Stores.{Clock, Marks, clock_rule_of, keeping, made, made_store, mark_kind_of, opens}
+use Rattle.script.specs.Stores.{Store, clock_rule_of, keeping, made, made_store, mark_kind_of, obeyed, opens}
 use Rattle.script.proofs.Stepping.{next_is, read_obeyed}
-
--- a step counts no line
-pub stepped_count : (rule : Rule) (k : Kind) (s : ListingState) → (stepped rule k s).1.lines ≡ s.lines
-stepped_count rule k s = by_read (read_command s.rest)
-  where
-    by_outcome : (rest : List ℕ) (outcome : Result Said Refusal × GroupState) → (performed_to s rest outcome).1.lines ≡ s.lines
-    by_outcome rest (Ok answer, g) = refl
-    by_outcome rest (Err why, g) = refl
-
-    by_read : (r : Result (Command × List ℕ) Refusal) → (stepped_with rule k s r).1.lines ≡ s.lines
-    by_read (Err why) = refl
-    by_read (Ok (command, rest)) = by_outcome rest (performed rule k s.group command)
 
 -- after its layout a script stands where the listing over the group that was made begins
 begins : (sites partitions clock_letter marks_letter : ℕ) (bytes : List ℕ) (clock : Clock) (marks : Marks) (g : GroupState) →
     let layout = Layout sites partitions clock_letter marks_letter in
     Lawful layout → made_store layout ≡ Ok (made clock marks g)
-    → script.next (begun (written layout ++ bytes)) ≡ Some (line_of 1 76 done, as_script clock marks (after_layout g bytes))
+    → next obeyed (begun (written layout ++ bytes)) ≡ Some (line_of 1 76 done, as_script clock marks (after_layout g bytes))
 begins sites partitions clock_letter marks_letter bytes clock marks g lawful makes =
-    sym (next_is s 76 (omega (arith, long)) (ap (λ r. get_or r 0 0) is)) ∙ ap (λ o. Some (script.numbered 76 o)) (sym step)
+    sym (next_is obeyed s 76 (omega (arith, long)) (ap (λ r. get_or r 0 0) is)) ∙ ap (λ o. Some (numbered 76 o)) (sym step)
   where
     layout : Command
     layout = Layout sites partitions clock_letter marks_letter
 
-    s : ScriptState
+    s : ScriptState Store
     s = begun (written layout ++ bytes)
 
     rest : List ℕ
@@ -55,34 +42,31 @@ begins sites partitions clock_letter marks_letter bytes clock marks g lawful mak
     long : length s.rest ≡ 5 + length rest
     long = ap length is ∙ length-append (written layout) rest
 
-    step : script.stepped_to s rest (Ok done, made clock marks g) ≡ script.stepped s
-    step = read_obeyed s layout rest (Ok done, made clock marks g) (sym (ap read_command is ∙ written_read layout rest lawful)) (sym (ap opens makes))
+    step : stepped_to s rest (Ok done, made clock marks g) ≡ stepped obeyed s
+    step = read_obeyed obeyed s layout rest (Ok done, made clock marks g) (sym (ap read_command is ∙ written_read layout rest lawful)) (sym (ap opens makes))
 
 -- a script that has made its group goes on as the listing over this group
-goes_on : (clock : Clock) (marks : Marks) (s : ListingState)
-    → script.next (as_script clock marks s) ≡ line_as_script clock marks (next (clock_rule_of clock) (mark_kind_of marks) s)
+goes_on : (clock : Clock) (marks : Marks) (s : ScriptState GroupState)
+    → next obeyed (as_script clock marks s) ≡ line_as_script clock marks (next (performed (clock_rule_of clock) (mark_kind_of marks)) s)
 goes_on clock marks s = by_rest s.rest
   where
-    rule : Rule
-    rule = clock_rule_of clock
-
-    kind : Kind
-    kind = mark_kind_of marks
+    performing : Obeying GroupState
+    performing = performed (clock_rule_of clock) (mark_kind_of marks)
 
     by_outcome : (letter : ℕ) (rest : List ℕ) (outcome : Result Said Refusal × GroupState)
-        → Some (script.numbered letter (script.stepped_to (as_script clock marks s) rest (keeping clock marks outcome)))
-        ≡ line_as_script clock marks (Some (numbered letter (performed_to s rest outcome)))
+        → Some (numbered letter (stepped_to (as_script clock marks s) rest (keeping clock marks outcome)))
+        ≡ line_as_script clock marks (Some (numbered letter (stepped_to s rest outcome)))
     by_outcome letter rest (Ok answer, g) = refl
     by_outcome letter rest (Err why, g) = refl
 
     by_read : (letter : ℕ) (r : Result (Command × List ℕ) Refusal)
-        → Some (script.numbered letter (script.stepped_by (as_script clock marks s) r))
-        ≡ line_as_script clock marks (Some (numbered letter (stepped_with rule kind s r)))
+        → Some (numbered letter (stepped_by obeyed (as_script clock marks s) r))
+        ≡ line_as_script clock marks (Some (numbered letter (stepped_by performing s r)))
     by_read letter (Err why) = refl
-    by_read letter (Ok (command, rest)) = by_outcome letter rest (performed rule kind s.group command)
+    by_read letter (Ok (command, rest)) = by_outcome letter rest (performing s.group command)
 
     by_rest : (bytes : List ℕ)
-        → script.next_at (as_script clock marks s) bytes ≡ line_as_script clock marks (next_at rule kind s bytes)
+        → next_at obeyed (as_script clock marks s) bytes ≡ line_as_script clock marks (next_at performing s bytes)
     by_rest [] = refl
     by_rest (letter ∷ bytes) = by_read letter (read_command s.rest)
 

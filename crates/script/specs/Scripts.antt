@@ -1,56 +1,61 @@
--- A script, command by command, and its listing.
+-- A script, command by command, over whatever obeys its commands; and the listing of a whole one.
 use Rattle.std.specs.Prelude.{ℕ, zero, suc, ◌+◌, ◌*◌, ◌≤◌, cond, List, [], ◌∷◌, ◌++◌, length, take, drop, Some, None, Ok, Err, Option, Result, ◌==◌, nat_lt}
 use Rattle.std.specs.List.{concat}
 use Rattle.stamps.specs.declared.refusal.Refusal.{Refusal}
 use Rattle.stamps.specs.declared.refusal.Refusal.TheVariants.{ShortBuffer}
 use Rattle.commands.specs.declared.command.Command.{Command}
 use Rattle.commands.specs.Commands.{read_command}
-use Rattle.script.specs.declared.script.Script.{Script}
+use Rattle.script.specs.declared.script.ScriptOver.{ScriptOver}
 use Rattle.script.specs.Answers.{Said, refused}
 use Rattle.script.specs.Lines.{line_of}
-use Rattle.script.specs.Stores.{Store, unmade, obeyed, store}
+use Rattle.script.specs.Stores.{Store, unmade, obeyed}
 
-pub record ScriptState : Type 0 where
+-- what a command answers or the refusal that ends the listing, by what obeys it, and what this is then
+abbrev pub Obeying : Type 0 → Type 0
+Obeying S = S → Command → Result Said Refusal × S
+
+pub record ScriptState (S : Type 0) : Type 0 where
   -- what is left of the script
   pub rest : List ℕ
   -- how many lines there were
   pub lines : ℕ
-  pub store : Store
+  -- what obeys its commands
+  pub group : S
 
-abbrev pub view : Script → ScriptState
-view s = record { rest = s.rest.now; lines = s.lines; store = store s.group }
+abbrev pub view : {G S : Type 0} → (G → S) → ScriptOver G → ScriptState S
+view state s = record { rest = s.rest.now; lines = s.lines; group = state s.group }
 
 -- a script as it begins: bytes past the first 65,535 are no part of it
-abbrev pub begun : List ℕ → ScriptState
-begun bytes = record { rest = take 65535 bytes; lines = 0; store = unmade }
+abbrev pub begun : List ℕ → ScriptState Store
+begun bytes = record { rest = take 65535 bytes; lines = 0; group = unmade }
 
 -- a refusal that ends the listing is its last answer, and leaves no rest
-abbrev pub ended_by : ScriptState → Refusal → Said × ScriptState
-ended_by s why = (refused why, record { rest = []; lines = s.lines; store = s.store })
+abbrev pub ended_by : {S : Type 0} → ScriptState S → Refusal → Said × ScriptState S
+ended_by s why = (refused why, record { rest = []; lines = s.lines; group = s.group })
 
 -- a command was obeyed, or has ended the listing
-abbrev pub stepped_to : ScriptState → List ℕ → Result Said Refusal × Store → Said × ScriptState
-stepped_to s rest (Ok answer, st) = (answer, record { rest = rest; lines = s.lines; store = st })
-stepped_to s rest (Err why, st) = ended_by (record { rest = s.rest; lines = s.lines; store = st }) why
+abbrev pub stepped_to : {S : Type 0} → ScriptState S → List ℕ → Result Said Refusal × S → Said × ScriptState S
+stepped_to s rest (Ok answer, g) = (answer, record { rest = rest; lines = s.lines; group = g })
+stepped_to s rest (Err why, g) = ended_by (record { rest = s.rest; lines = s.lines; group = g }) why
 
-abbrev pub stepped_by : ScriptState → Result (Command × List ℕ) Refusal → Said × ScriptState
-stepped_by s (Err why) = ended_by s why
-stepped_by s (Ok (command, rest)) = stepped_to s rest (obeyed s.store command)
+abbrev pub stepped_by : {S : Type 0} → Obeying S → ScriptState S → Result (Command × List ℕ) Refusal → Said × ScriptState S
+stepped_by obeying s (Err why) = ended_by s why
+stepped_by obeying s (Ok (command, rest)) = stepped_to s rest (obeying s.group command)
 
 -- what the next command answers, and the script after it
-abbrev pub stepped : ScriptState → Said × ScriptState
-stepped s = stepped_by s (read_command s.rest)
+abbrev pub stepped : {S : Type 0} → Obeying S → ScriptState S → Said × ScriptState S
+stepped obeying s = stepped_by obeying s (read_command s.rest)
 
 -- the next line and the script after it, if bytes are left
-abbrev pub numbered : ℕ → Said × ScriptState → List ℕ × ScriptState
-numbered letter (answer, s) = (line_of (s.lines + 1) letter answer, record { rest = s.rest; lines = s.lines + 1; store = s.store })
+abbrev pub numbered : {S : Type 0} → ℕ → Said × ScriptState S → List ℕ × ScriptState S
+numbered letter (answer, s) = (line_of (s.lines + 1) letter answer, record { rest = s.rest; lines = s.lines + 1; group = s.group })
 
-abbrev pub next_at : ScriptState → List ℕ → Option (List ℕ × ScriptState)
-next_at s [] = None
-next_at s (letter ∷ bytes) = Some (numbered letter (stepped s))
+abbrev pub next_at : {S : Type 0} → Obeying S → ScriptState S → List ℕ → Option (List ℕ × ScriptState S)
+next_at obeying s [] = None
+next_at obeying s (letter ∷ bytes) = Some (numbered letter (stepped obeying s))
 
-abbrev pub next : ScriptState → Option (List ℕ × ScriptState)
-next s = next_at s s.rest
+abbrev pub next : {S : Type 0} → Obeying S → ScriptState S → Option (List ℕ × ScriptState S)
+next obeying s = next_at obeying s s.rest
 
 -- a line goes to the start of a buffer, and the bytes past it stay; with no line nothing changes
 abbrev pub written : {S : Type 0} → S → List ℕ → Option (List ℕ × S) → Result (Option ℕ) Refusal × S × List ℕ
@@ -58,8 +63,8 @@ written s buffer None = (Ok None, s, buffer)
 written s buffer (Some (line, after)) = (Ok (Some (length line)), after, line ++ drop (length line) buffer)
 
 -- the first line, if none was listed before
-abbrev pub first : ScriptState → Option (List ℕ × ScriptState)
-first s = cond (s.lines == 0) (next s) None
+abbrev pub first : ScriptState Store → Option (List ℕ × ScriptState Store)
+first s = cond (s.lines == 0) (next obeyed s) None
 
 -- a line into a buffer; one under 96 bytes is refused before anything is done
 abbrev pub line_into : {S : Type 0} → (S → Option (List ℕ × S)) → S → List ℕ → Result (Option ℕ) Refusal × S × List ℕ
@@ -71,13 +76,13 @@ AtMost96 None = Unit {0}
 AtMost96 (Some len) = len ≤ 96
 
 -- the lines that follow, at most n of them
-abbrev pub lines_after : (ScriptState → List (List ℕ)) → Option (List ℕ × ScriptState) → List (List ℕ)
+abbrev pub lines_after : {S : Type 0} → (S → List (List ℕ)) → Option (List ℕ × S) → List (List ℕ)
 lines_after more None = []
 lines_after more (Some (line, s)) = line ∷ more s
 
-abbrev pub lines_from : ℕ → ScriptState → List (List ℕ)
+abbrev pub lines_from : ℕ → ScriptState Store → List (List ℕ)
 lines_from zero s = []
-lines_from (suc n) s = lines_after (lines_from n) (next s)
+lines_from (suc n) s = lines_after (lines_from n) (next obeyed s)
 
 -- the lines of a script: a command takes at least one byte, so there are at most as many as there are bytes
 abbrev pub lines_of : List ℕ → List (List ℕ)

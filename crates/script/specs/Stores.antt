@@ -15,24 +15,21 @@ use Rattle.commands.specs.declared.command.Command.{Command}
 use Rattle.commands.specs.declared.command.Command.TheVariants.{Layout, OpenSession, Tell, Put, Get, Heartbeat, Deliver, Report, Stabilise, Tidy, Lead, View}
 use Rattle.script.specs.declared.any_group.AnyGroup.{AnyGroup}
 use Rattle.script.specs.declared.any_group.AnyGroup.TheVariants.{Unmade, RawOne, RawEach, HybridOne, HybridEach}
+use Rattle.script.specs.declared.choice.Choice.{Choice}
+use Rattle.script.specs.declared.choice.Clock.{Clock}
+use Rattle.script.specs.declared.choice.Clock.TheVariants.{Raw, Hybrid}
+use Rattle.script.specs.declared.choice.Marks.{Marks}
+use Rattle.script.specs.declared.choice.Marks.TheVariants.{One, Each}
 use Rattle.script.specs.Answers.{Said, done}
 use Rattle.script.specs.Steps.{performed}
 
-pub data Clock : Type 0 where
-  raw : Clock
-  hybrid : Clock
-
-pub data Marks : Type 0 where
-  one : Marks
-  each : Marks
-
 abbrev pub clock_rule_of : Clock → Rule
-clock_rule_of raw = clocks.raw
-clock_rule_of hybrid = clocks.hybrid
+clock_rule_of Raw = clocks.raw
+clock_rule_of Hybrid = clocks.hybrid
 
 abbrev pub mark_kind_of : Marks → Kind
-mark_kind_of one = one_kind
-mark_kind_of each = each_kind
+mark_kind_of One = one_kind
+mark_kind_of Each = each_kind
 
 -- no group yet, or one with its clock rule and its kind of mark
 pub data Store : Type 0 where
@@ -41,27 +38,23 @@ pub data Store : Type 0 where
 
 abbrev pub store : AnyGroup → Store
 store Unmade = unmade
-store (RawOne g) = made raw one (group.view g)
-store (RawEach g) = made raw each (group.view g)
-store (HybridOne g) = made hybrid one (group.view g)
-store (HybridEach g) = made hybrid each (group.view g)
-
-abbrev pub store_or : Result AnyGroup Refusal → Result Store Refusal
-store_or (Ok g) = Ok (store g)
-store_or (Err why) = Err why
-
--- the letters of the kinds of mark: 79 is O, 69 is E
-abbrev pub with_marks : Clock → ℕ → GroupState → Result Store Refusal
-with_marks clock marks g = cond (marks == 79) (Ok (made clock one g)) (cond (marks == 69) (Ok (made clock each g)) (Err BadLayout))
+store (RawOne g) = made Raw One (group.view g)
+store (RawEach g) = made Raw Each (group.view g)
+store (HybridOne g) = made Hybrid One (group.view g)
+store (HybridEach g) = made Hybrid Each (group.view g)
 
 -- the letters of the clock rules: 82 is R, 72 is H
-abbrev pub with_clock : ℕ → ℕ → GroupState → Result Store Refusal
-with_clock clock marks g = cond (clock == 82) (with_marks raw marks g) (cond (clock == 72) (with_marks hybrid marks g) (Err BadLayout))
+abbrev pub clock_of : ℕ → Result Clock Refusal
+clock_of letter = cond (letter == 82) (Ok Raw) (cond (letter == 72) (Ok Hybrid) (Err BadLayout))
+
+-- the letters of the kinds of mark: 79 is O, 69 is E
+abbrev pub marks_of : ℕ → Result Marks Refusal
+marks_of letter = cond (letter == 79) (Ok One) (cond (letter == 69) (Ok Each) (Err BadLayout))
 
 -- the group that a script's first command makes, which has to be a layout
 abbrev pub made_store : Command → Result Store Refusal
 made_store (Layout sites partitions clock marks) =
-    and_then (checked_counts sites partitions) (λ counts. with_clock clock marks (model.made counts.0 counts.1))
+    and_then (checked_counts sites partitions) (λ counts. and_then (clock_of clock) (λ rule. and_then (marks_of marks) (λ kind. Ok (made rule kind (model.made counts.0 counts.1)))))
 made_store (OpenSession site) = Err LayoutMisplaced
 made_store (Tell site partition time) = Err LayoutMisplaced
 made_store (Put session key kind amount) = Err LayoutMisplaced
@@ -73,6 +66,15 @@ made_store (Stabilise site partition) = Err LayoutMisplaced
 made_store (Tidy site partition) = Err LayoutMisplaced
 made_store (Lead site partition) = Err LayoutMisplaced
 made_store (View session partition first second) = Err LayoutMisplaced
+
+-- the new group of a choice
+abbrev pub chosen_store : Choice → Store
+chosen_store choice = made choice.clock choice.marks (model.made choice.layout.sites.number choice.layout.partitions)
+
+-- the store of what was made, or the refusal
+abbrev pub store_as : {A : Type 0} → (A → Store) → Result A Refusal → Result Store Refusal
+store_as of (Ok x) = Ok (of x)
+store_as of (Err why) = Err why
 
 -- a first command is done if it makes a group
 abbrev pub opens : Result Store Refusal → Result Said Refusal × Store

@@ -1,14 +1,15 @@
 // A group of any of the clock rules and kinds of mark that are built, or none yet.
 ghost use Rattle.std.specs.Prelude.{◌≡◌, is_ok};
-ghost use Rattle.script.specs.Kept.{KeepsOr};
+ghost use Rattle.script.specs.Kept.{Keeps, KeepsOr};
 ghost use Rattle.script.specs.Steps.{said_or};
-ghost use Rattle.script.specs.Stores.{obeyed, made_store, store, store_or, opens, unmade};
+ghost use Rattle.script.specs.Stores.{Store, obeyed, made_store, chosen_store, store, store_as, opens, unmade};
 
 use crate::answer::Answer;
+use crate::choice::{Choice, Clock, Marks};
+use crate::obeys::Obeys;
 use crate::perform::perform;
 use commands::command::Command;
 use group::group::Group;
-use group::layout::Draft;
 use marks::each::Each;
 use marks::one::One;
 use stamps::hybrid::Hybrid;
@@ -17,7 +18,7 @@ use stamps::refusal::Refusal;
 
 #[derive(Drop)]
 pub enum AnyGroup {
-    // No group was made.
+    // No group was made. With an `Option` around the groups each command would be copied once more.
     Unmade,
     RawOne(Group<Raw, One>),
     RawEach(Group<Raw, Each>),
@@ -25,11 +26,14 @@ pub enum AnyGroup {
     HybridEach(Group<Hybrid, Each>),
 }
 
-impl AnyGroup {
-    // Performs a command, or says why the listing ends.
-    pub(crate) fn obey(&mut self, command: Command) -> Result<Answer, Refusal>
-        ensures { (said_or result, store self.new) ≡ obeyed (store self.old) command }
-    {
+impl Obeys for AnyGroup {
+    ghost State = { Store };
+
+    ghost state = { store };
+
+    ghost obeying = { obeyed };
+
+    fn obey(&mut self, command: Command) -> Result<Answer, Refusal> {
         match self {
             AnyGroup::Unmade => self.make(command),
             AnyGroup::RawOne(group) => perform(group, command),
@@ -38,7 +42,9 @@ impl AnyGroup {
             AnyGroup::HybridEach(group) => perform(group, command),
         }
     }
+}
 
+impl AnyGroup {
     // Makes the group of the first command. It is kept out of `obey`, which would pay for its large locals at each command.
     #[inline(never)]
     fn make(&mut self, command: Command) -> Result<Answer, Refusal>
@@ -50,28 +56,26 @@ impl AnyGroup {
     }
 }
 
-// The group that a script's first command makes, which has to be a layout. From here on it keeps the promises, whichever
-// clock rule and kind of mark it has.
+// The group that a script's first command makes. From here on it keeps the promises, whichever clock rule and kind of mark
+// it has.
 pub(crate) fn make_group(command: Command) -> Result<AnyGroup, Refusal>
-    ensures value { store_or result ≡ made_store command }
-    ensures promises { KeepsOr (store_or result) }
+    ensures value { store_as store result ≡ made_store command }
+    ensures promises { KeepsOr (store_as store result) }
 {
-    let Command::Layout {
-        sites,
-        partitions,
-        clock,
-        marks,
-    } = command
-    else {
-        return Err(Refusal::LayoutMisplaced);
-    };
-    let layout = Draft { sites, partitions }.check()?;
-    match (clock, marks) {
-        ('R', 'O') => Ok(AnyGroup::RawOne(Group::new(layout))),
-        ('R', 'E') => Ok(AnyGroup::RawEach(Group::new(layout))),
-        ('H', 'O') => Ok(AnyGroup::HybridOne(Group::new(layout))),
-        ('H', 'E') => Ok(AnyGroup::HybridEach(Group::new(layout))),
-        _ => Err(Refusal::BadLayout),
+    Ok(group_of(Choice::try_from(command)?))
+}
+
+// A new group as it was chosen.
+fn group_of(choice: Choice) -> AnyGroup
+    ensures value { store result ≡ chosen_store choice }
+    ensures promises { Keeps (store result) }
+{
+    let layout = choice.layout;
+    match (choice.clock, choice.marks) {
+        (Clock::Raw, Marks::One) => AnyGroup::RawOne(Group::new(layout)),
+        (Clock::Raw, Marks::Each) => AnyGroup::RawEach(Group::new(layout)),
+        (Clock::Hybrid, Marks::One) => AnyGroup::HybridOne(Group::new(layout)),
+        (Clock::Hybrid, Marks::Each) => AnyGroup::HybridEach(Group::new(layout)),
     }
 }
 
@@ -79,18 +83,5 @@ pub(crate) fn make_group(command: Command) -> Result<AnyGroup, Refusal>
 pub(crate) fn makes_group(command: Command) -> bool
     ensures { result ≡ is_ok (made_store command) }
 {
-    let Command::Layout {
-        sites,
-        partitions,
-        clock,
-        marks,
-    } = command
-    else {
-        return false;
-    };
-    let layout = Draft { sites, partitions }.check();
-    match layout {
-        Ok(_) => matches!((clock, marks), ('R' | 'H', 'O' | 'E')),
-        Err(_) => false,
-    }
+    Choice::try_from(command).is_ok()
 }

@@ -54,6 +54,7 @@ fn write_lines(bytes: &[u8], buffer: &mut [u8]) -> usize
     ensures law { ListingLaw bytes.now (take result buffer.new) }
 {
     let mut script = Script::new(bytes);
+    // Where the next line goes. Only a line that is written has a length, so no iterator cuts the buffer for the lines.
     let mut end = 0;
     'lines: while !script.has_ended() {
         end += script.write_next(&mut buffer[end..]);
@@ -67,11 +68,10 @@ fn count_lines(bytes: &[u8]) -> usize
     ensures few { result ≤ 65535 }
 {
     let mut rest = script_of(bytes);
-    let mut made = false;
     let mut count = 0;
     'lines: while !rest.is_empty() {
-        rest = rest_after(rest, made);
-        made = true;
+        // After the first command there is a group.
+        rest = rest_after(rest, count > 0);
         count += 1;
     }
     count
@@ -93,11 +93,9 @@ fn rest_after<'a>(bytes: &'a [u8], made: bool) -> &'a [u8]
 fn goes_on(command: Command, made: bool) -> bool
     ensures { result ≡ goes_on made command }
 {
-    if !made {
-        return makes_group(command);
-    }
-    match command {
-        Command::Layout { .. } => false,
-        _ => true,
+    if made {
+        !matches!(command, Command::Layout { .. })
+    } else {
+        makes_group(command)
     }
 }

@@ -1,17 +1,30 @@
 // A script over a group that the caller made, of any clock rule and kind of mark, listed line by line.
-ghost use Rattle.std.specs.Prelude.{◌+◌, ◌≤◌, length};
+ghost use Rattle.std.specs.Prelude.{◌≡◌};
+ghost use Rattle.script.specs.Scripts.{view};
+ghost use Rattle.script.specs.Listings.{after_layout, GoesOnAsScript};
+ghost use Rattle.group.specs.Groups.{view as group_view};
 
+use crate::script::{MOST_SCRIPT_BYTES, ScriptOver, first_bytes};
 use group::group::Group;
 use marks::mark_kind::MarkKind;
 use stamps::clock_rule::ClockRule;
 
-// What is left of the script, how many lines there were with that of its layout, and the group.
-#[derive(Drop)]
-pub struct Listing<'a, C: ClockRule, K: MarkKind> {
-    rest: &'a [u8],
-    lines: u32,
-    group: Group<C, K>,
-    ghost few: { lines + length rest.now ≤ 65535 },
-}
+pub type Listing<'a, C, K> = ScriptOver<'a, Group<C, K>>;
 
-mod calls;
+// The bytes of a layout, which count among those of its script.
+const LAYOUT_BYTES: usize = 5;
+
+impl<'a, C: ClockRule, K: MarkKind> Listing<'a, C, K> {
+    // The commands that follow the layout of a group. Its line was the first, so theirs count from 2. Bytes past the
+    // first 65,530 are no part of the script.
+    pub fn new(group: Group<C, K>, bytes: &'a [u8]) -> Self
+        ensures state { view group_view result ≡ after_layout (group_view group) bytes.now }
+        ensures goes_on { GoesOnAsScript }
+    {
+        ScriptOver {
+            rest: first_bytes(bytes, MOST_SCRIPT_BYTES - LAYOUT_BYTES),
+            lines: 1,
+            group,
+        }
+    }
+}

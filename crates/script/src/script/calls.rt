@@ -1,51 +1,20 @@
-// The making of a script, and its next line.
-ghost use Rattle.std.specs.Prelude.{◌≡◌, ◌<◌, ◌≤◌, length, take, ◌==◌, IfOk, Ok as Listed, Some as Line};
+// The next line of a script, over whatever obeys its commands.
+ghost use Rattle.std.specs.Prelude.{◌≡◌, ◌<◌, ◌≤◌, length, ◌==◌, IfOk, Ok as Listed, Some as Line};
 ghost use Rattle.script.specs.Answers.{said};
-ghost use Rattle.script.specs.Scripts.{view, begun, stepped, ended_by, next, first, written, line_into, AtMost96};
+ghost use Rattle.script.specs.Scripts.{view, ended_by, stepped, next, written, line_into, AtMost96};
 
-use super::Script;
+use super::ScriptOver;
 use crate::answer::Answer;
-use crate::any_group::AnyGroup;
 use crate::line::{MOST_BYTES, write_line};
+use crate::obeys::Obeys;
 use commands::reader::read;
 use stamps::refusal::Refusal;
 
-// Bytes past these are no part of a script.
-pub const MOST_SCRIPT_BYTES: usize = 65_535;
-
-// The first bytes, at most so many.
-pub(crate) fn first_bytes<'a>(bytes: &'a [u8], most: usize) -> &'a [u8]
-    ensures { result.now ≡ take most bytes.now }
-{
-    if bytes.len() > most {
-        &bytes[0..most]
-    } else {
-        bytes
-    }
-}
-
-// The bytes that are a script's.
-pub(crate) fn script_of<'a>(bytes: &'a [u8]) -> &'a [u8]
-    ensures { result.now ≡ (begun bytes.now).rest }
-{
-    first_bytes(bytes, MOST_SCRIPT_BYTES)
-}
-
-impl<'a> Script<'a> {
-    pub fn new(bytes: &'a [u8]) -> Script<'a>
-        ensures { view result ≡ begun bytes.now }
-    {
-        Script {
-            rest: script_of(bytes),
-            lines: 0,
-            group: AnyGroup::Unmade,
-        }
-    }
-
+impl<'a, G: Obeys> ScriptOver<'a, G> {
     // Performs the next command and writes its line to the start of the buffer: the line's length, or none if the
     // script has ended.
     pub fn next_line(&mut self, buffer: &mut [u8]) -> Result<Option<usize>, Refusal>
-        ensures value { (result, view self.new, buffer.new) ≡ line_into next (view self.old) buffer.old }
+        ensures value { (result, view G.state self.new, buffer.new) ≡ line_into (next G.obeying) (view G.state self.old) buffer.old }
         ensures short { IfOk result AtMost96 }
     {
         if buffer.len() < MOST_BYTES {
@@ -57,19 +26,8 @@ impl<'a> Script<'a> {
         Ok(Some(self.write_next(buffer)))
     }
 
-    // The first line in the same way: none if a line was listed before.
-    pub fn first_line(&mut self, buffer: &mut [u8]) -> Result<Option<usize>, Refusal>
-        ensures value { (result, view self.new, buffer.new) ≡ line_into first (view self.old) buffer.old }
-        ensures short { IfOk result AtMost96 }
-    {
-        if self.lines == 0 || buffer.len() < MOST_BYTES {
-            return self.next_line(buffer);
-        }
-        Ok(None)
-    }
-
     pub(crate) fn has_ended(&self) -> bool
-        ensures { result ≡ (length (view self.now).rest == 0) }
+        ensures { result ≡ (length self.now.rest.now == 0) }
     {
         self.rest.is_empty()
     }
@@ -77,7 +35,7 @@ impl<'a> Script<'a> {
     // The next line, where there is one and the buffer is long enough.
     pub(crate) fn write_next(&mut self, buffer: &mut [u8]) -> usize
         requires { (96 ≤ length buffer.old) × (0 < length self.old.rest.now) }
-        ensures value { (Listed (Line result), view self.new, buffer.new) ≡ written (view self.old) buffer.old (next (view self.old)) }
+        ensures value { (Listed (Line result), view G.state self.new, buffer.new) ≡ written (view G.state self.old) buffer.old (next G.obeying (view G.state self.old)) }
         ensures short { result ≤ 96 }
     {
         let letter = self.rest[0] as char;
@@ -86,10 +44,10 @@ impl<'a> Script<'a> {
         write_line(buffer, self.lines, letter, answer)
     }
 
-    // Performs the next command.
+    // Performs the next command. The answer is returned where it comes: with a `?` it would be copied once more.
     fn step(&mut self) -> Answer
         requires { 0 < length self.old.rest.now }
-        ensures step { (said result, view self.new) ≡ stepped (view self.old) }
+        ensures step { (said result, view G.state self.new) ≡ stepped G.obeying (view G.state self.old) }
         ensures shorter { length self.new.rest.now < length self.old.rest.now }
     {
         let (command, rest) = match read(self.rest) {
@@ -107,7 +65,7 @@ impl<'a> Script<'a> {
 
     // Nothing is listed after this refusal.
     fn end(&mut self, why: Refusal) -> Answer
-        ensures { (said result, view self.new) ≡ ended_by (view self.old) why }
+        ensures { (said result, view G.state self.new) ≡ ended_by (view G.state self.old) why }
     {
         self.rest = &[];
         Answer::Refused(why)

@@ -1,4 +1,4 @@
-use Rattle.std.proofs.Common.{◌≡◌, ◌-◌, ◌<◌, ◌≤◌, ◌++◌, length, take, drop, sym, refl, ap, subst, ◌∙◌, arith}
+use Rattle.std.proofs.Common.{◌≡◌, ◌-◌, ◌<◌, ◌≤◌, ◌++◌, [], length, take, drop, sym, refl, ap, subst, ◌∙◌, arith}
 use Rattle.std.specs.List.{concat}
 use Rattle.std.proofs.lemmas.Bool.{eqb-false, eqb-true}
 use Rattle.std.proofs.lemmas.List.{append_assoc, append-nil, length-take-le, take-append-drop, take_rest, length-drop}
@@ -6,6 +6,7 @@ use Rattle.std.proofs.lemmas.List.Elements.{All-cons, All-nil}
 use lib.Seq.{drop-drop}
 use Rattle.script.specs.Laws.{EachShort, ListingLaw}
 use Rattle.script.specs.Scripts.{lines_of, listing, view}
+use Rattle.script.specs.Stores.{store}
 use Rattle.script.proofs.Answered.{listing_law}
 use Rattle.script.proofs.LinesLeft.{line_came, lines_begun, lines_none, lines_some, lines_turn, lines_left, next_shorter, put_drop, put_take}
 use Rattle.script.proofs.list.write_lines.Goals as goal
@@ -22,15 +23,15 @@ write_next-end-requires c =
     let buffer = c.lines.buffer in
     let left = eqb-false (length c.lines.script.rest.now) 0 (sym c.lines-test.ensures) in
     let some : 0 < length c.lines.script.rest.now = omega arith in
-    let follows = lines_some (view c.lines.script) some in
+    let follows = lines_some (view store c.lines.script) some in
     let part = ap length (take_rest buffer c.lines.end) ∙ length-drop c.lines.end buffer in
     (omega (arith, part, follows, c.lines.invariant.room), some)
 
 pub lines-smaller : goal.lines-smaller
 lines-smaller c =
     let buffer = c.lines.buffer in
-    let before = view c.lines.script in
-    let after = view c.write_next-end.new.self in
+    let before = view store c.lines.script in
+    let after = view store c.write_next-end.new.self in
     let came = line_came before after c.write_next-end.result (take (length buffer - c.lines.end) (drop c.lines.end buffer)) c.write_next-end.new.buffer c.write_next-end.ensures.value in
     next_shorter before after came.line came.comes
 
@@ -40,8 +41,8 @@ lines-preserved c =
     let end = c.lines.end in
     let len = c.write_next-end.result in
     let k = length buffer - end in
-    let before = view c.lines.script in
-    let after = view c.write_next-end.new.self in
+    let before = view store c.lines.script in
+    let after = view store c.write_next-end.new.self in
     let left = c.write_next-end.new.buffer in
     let within : end ≤ length buffer = omega (arith, c.lines.invariant.room) in
     let came = line_came before after len (take k (drop end buffer)) left c.write_next-end.ensures.value in
@@ -61,13 +62,19 @@ lines-preserved c =
       short = omega (arith, ap length turn, c.lines.invariant.short, c.write_next-end.ensures.short);
     }
 
--- at the end no lines are to come, so what is written is the listing
+-- at the end no lines are to come
+none_to_come : (c : goal.After-lines) → lines_left (view store c.lines.script) ≡ []
+none_to_come c = lines_none (view store c.lines.script) (eqb-true (length c.lines.script.rest.now) 0 (sym c.lines-test.ensures))
+
+-- and all lines of the script were to come
+all_to_come : (c : goal.After-lines) → lines_left (view store c.new-script.result) ≡ lines_of c.args.bytes.now
+all_to_come c = ap lines_left c.new-script.ensures ∙ lines_begun c.args.bytes.now
+
+-- so what is written is the listing
 all_written : (c : goal.After-lines) → take c.lines.end c.lines.buffer ≡ listing c.args.bytes.now
 all_written c =
     let front = take c.lines.end c.lines.buffer in
-    let none = lines_none (view c.lines.script) (eqb-true (length c.lines.script.rest.now) 0 (sym c.lines-test.ensures)) in
-    sym (append-nil front) ∙ ap (λ xs. front ++ concat xs) (sym none) ∙ c.lines.invariant.written
-    ∙ ap concat (ap lines_left c.new-script.ensures ∙ lines_begun c.args.bytes.now)
+    sym (append-nil front) ∙ ap (λ xs. front ++ concat xs) (sym (none_to_come c)) ∙ c.lines.invariant.written ∙ ap concat (all_to_come c)
 
 length_written : (c : goal.After-lines) → c.lines.end ≡ length (listing c.args.bytes.now)
 length_written c = sym (length-take-le c.lines.end c.lines.buffer (omega (arith, c.lines.invariant.room))) ∙ ap length (all_written c)
@@ -82,15 +89,11 @@ returns-clause-text c =
     ∙ ap (λ xs. text ++ xs) (c.lines.invariant.behind ∙ ap (λ n. drop n c.args.buffer.now) (length_written c))
 
 pub returns-clause-short : goal.returns-clause-short
-returns-clause-short c =
-    let all = ap length (ap lines_left c.new-script.ensures ∙ lines_begun c.args.bytes.now) in
-    omega (arith, all, c.lines.invariant.short)
+returns-clause-short c = omega (arith, ap length (all_to_come c), c.lines.invariant.short)
 
 -- at the end no lines are to come that could be long
 each_short : (c : goal.After-lines) → EachShort (lines_of c.args.bytes.now)
-each_short c =
-    let none = lines_none (view c.lines.script) (eqb-true (length c.lines.script.rest.now) 0 (sym c.lines-test.ensures)) in
-    subst EachShort (ap lines_left c.new-script.ensures ∙ lines_begun c.args.bytes.now) (c.lines.invariant.each (subst EachShort (sym none) (All-nil (λ line. length line ≤ 96))))
+each_short c = subst EachShort (all_to_come c) (c.lines.invariant.each (subst EachShort (sym (none_to_come c)) (All-nil (λ line. length line ≤ 96))))
 
 pub returns-clause-law : goal.returns-clause-law
 returns-clause-law c =

@@ -2,6 +2,7 @@ use Rattle.std.proofs.Common.{◌≡◌, ◌+◌, ◌*◌, ◌≤◌, ◌++◌, 
 use Rattle.std.specs.List.{concat}
 use Rattle.script.specs.Laws.{EachShort}
 use Rattle.script.specs.Scripts.{view}
+use Rattle.script.specs.Stores.{store}
 use Rattle.script.proofs.LinesLeft.{lines_left}
 use Rattle.script.proofs.list.write_lines.Given as goal
 
@@ -10,11 +11,11 @@ use Rattle.script.proofs.list.write_lines.Given as goal
 abbrev pub invariant-lines : goal.invariant-lines
 invariant-lines l =
     record {
-      written : take l.end l.buffer ++ concat (lines_left (view l.script)) ≡ concat (lines_left (view l.initial.script));
+      written : take l.end l.buffer ++ concat (lines_left (view store l.script)) ≡ concat (lines_left (view store l.initial.script));
       behind : drop l.end l.buffer ≡ drop l.end l.initial.buffer;
-      room : l.end + 96 * length (lines_left (view l.script)) ≤ length l.buffer;
-      each : EachShort (lines_left (view l.script)) → EachShort (lines_left (view l.initial.script));
-      short : l.end + 96 * length (lines_left (view l.script)) ≤ 96 * length (lines_left (view l.initial.script));
+      room : l.end + 96 * length (lines_left (view store l.script)) ≤ length l.buffer;
+      each : EachShort (lines_left (view store l.script)) → EachShort (lines_left (view store l.initial.script));
+      short : l.end + 96 * length (lines_left (view store l.script)) ≤ 96 * length (lines_left (view store l.initial.script));
     }
 
 abbrev pub decreases-lines : goal.decreases-lines

@@ -1,0 +1,80 @@
+// What a layout chooses: how large the group is, its clock rule and its kind of mark.
+ghost use Rattle.std.specs.Prelude.{◌≡◌};
+ghost use Rattle.script.specs.Stores.{clock_of, marks_of, made_store, chosen_store, store_as};
+
+use commands::command::Command;
+use group::layout::{Draft, Layout};
+use stamps::refusal::Refusal;
+
+#[derive(Clone, Copy)]
+pub(crate) enum Clock {
+    Raw,
+    Hybrid,
+}
+
+#[derive(Clone, Copy)]
+pub(crate) enum Marks {
+    One,
+    Each,
+}
+
+#[derive(Clone, Copy)]
+pub(crate) struct Choice {
+    pub(crate) layout: Layout,
+    pub(crate) clock: Clock,
+    pub(crate) marks: Marks,
+}
+
+// The clock rule of a letter.
+impl TryFrom<char> for Clock {
+    type Error = Refusal;
+
+    ghost try_from_gives = { λ letter r. r ≡ clock_of letter };
+
+    fn try_from(letter: char) -> Result<Clock, Refusal> {
+        match letter {
+            'R' => Ok(Clock::Raw),
+            'H' => Ok(Clock::Hybrid),
+            _ => Err(Refusal::BadLayout),
+        }
+    }
+}
+
+// The kind of mark of a letter.
+impl TryFrom<char> for Marks {
+    type Error = Refusal;
+
+    ghost try_from_gives = { λ letter r. r ≡ marks_of letter };
+
+    fn try_from(letter: char) -> Result<Marks, Refusal> {
+        match letter {
+            'O' => Ok(Marks::One),
+            'E' => Ok(Marks::Each),
+            _ => Err(Refusal::BadLayout),
+        }
+    }
+}
+
+// The choice of a script's first command, which has to be a layout.
+impl TryFrom<Command> for Choice {
+    type Error = Refusal;
+
+    ghost try_from_gives = { λ command r. store_as chosen_store r ≡ made_store command };
+
+    fn try_from(command: Command) -> Result<Choice, Refusal> {
+        let Command::Layout {
+            sites,
+            partitions,
+            clock,
+            marks,
+        } = command
+        else {
+            return Err(Refusal::LayoutMisplaced);
+        };
+        Ok(Choice {
+            layout: Draft { sites, partitions }.check()?,
+            clock: Clock::try_from(clock)?,
+            marks: Marks::try_from(marks)?,
+        })
+    }
+}

@@ -1,0 +1,43 @@
+// What obeys the commands of a script.
+ghost use Rattle.std.specs.Prelude.{◌≡◌, Result};
+ghost use Rattle.stamps.specs.declared.refusal.Refusal.{Refusal};
+ghost use Rattle.commands.specs.declared.command.Command.{Command};
+ghost use Rattle.group.specs.Groups.{view as group_view};
+ghost use Rattle.model.specs.Groups.{GroupState};
+ghost use Rattle.script.specs.Answers.{Said};
+ghost use Rattle.script.specs.Steps.{said_or, performed};
+
+use crate::answer::Answer;
+use crate::perform::perform;
+use commands::command::Command;
+use group::group::Group;
+use marks::mark_kind::MarkKind;
+use stamps::clock_rule::ClockRule;
+use stamps::refusal::Refusal;
+
+// A group, or what a layout makes one.
+pub trait Obeys {
+    // What is known of it.
+    ghost State: { Type 0 };
+
+    ghost state: { Self → State };
+
+    // What a command answers, or the refusal that ends the listing, and the state after it.
+    ghost obeying: { State → Command → Result Said Refusal × State };
+
+    // Performs a command, or says why the listing ends.
+    fn obey(&mut self, command: Command) -> Result<Answer, Refusal>
+        ensures { (said_or result, state self.new) ≡ obeying (state self.old) command };
+}
+
+impl<C: ClockRule, K: MarkKind> Obeys for Group<C, K> {
+    ghost State = { GroupState };
+
+    ghost state = { group_view };
+
+    ghost obeying = { performed C.ClockRule.answer K.MarkKind.kind };
+
+    fn obey(&mut self, command: Command) -> Result<Answer, Refusal> {
+        perform(self, command)
+    }
+}
