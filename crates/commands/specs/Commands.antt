@@ -1,5 +1,5 @@
 -- Commands: a letter, then operands of fixed width, high byte first.
-use Rattle.std.specs.Prelude.{ℕ, ◌+◌, ◌*◌, cond, List, [], ◌∷◌, length, drop, Some, None, Ok, Err, Option, Result, ◌==◌, nat_le, slice_index}
+use Rattle.std.specs.Prelude.{◌≡◌, ℕ, ◌+◌, ◌*◌, cond, List, [], ◌∷◌, length, drop, Some, None, Ok, Err, Option, Result, MatchResult, IsOkAnd, ◌==◌, nat_le, slice_index}
 use Rattle.std.specs.Borrow.{Bor}
 use Rattle.stamps.specs.declared.refusal.Refusal.{Refusal}
 use Rattle.stamps.specs.declared.refusal.Refusal.TheVariants.{ShortCommand, UnknownLetter}
@@ -102,3 +102,7 @@ read_command (letter ∷ bytes) = read_form (form_of letter) bytes
 abbrev pub rested : {A : Type 0} → Result (A × Bor (List ℕ)) Refusal → Result (A × List ℕ) Refusal
 rested (Ok p) = Ok (p.0, p.1.now)
 rested (Err why) = Err why
+
+-- what is read of a site and a partition, by what can be made of them, and the bytes after them
+abbrev pub ServerRead : (ℕ → ℕ → Command → Type 0) → List ℕ → Result (Command × List ℕ) Refusal → Type 0
+ServerRead makes bytes answer = MatchResult (taken 2 pair bytes) (λ p. IsOkAnd answer (λ q. makes p.0.0 p.0.1 q.0 × (q.1 ≡ p.1))) (λ why. answer ≡ Err why)

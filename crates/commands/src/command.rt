@@ -1,6 +1,8 @@
 // The commands of a script, with their operands as they were read.
 
-#[derive(Clone, Copy)]
+// Operands are numbers and letters of any value: which of them are lawful is judged later, where the refusals have their
+// order.
+#[derive(Clone, Copy, PartialEq, Eq, Debug)]
 pub enum Command {
     // L
     Layout {

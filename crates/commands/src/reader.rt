@@ -1,6 +1,6 @@
 // Bytes to commands.
 ghost use Rattle.std.specs.Prelude.{◌≡◌};
-ghost use Rattle.commands.specs.Commands.{deliver_form, form_of, formed, get_form, layout_form, open_session_form, pair, put_form, read_command, read_form, rested, taken, tell_form, view_form};
+ghost use Rattle.commands.specs.Commands.{deliver_form, form_of, formed, get_form, layout_form, open_session_form, put_form, read_command, read_form, rested, tell_form, view_form, ServerRead};
 ghost use Rattle.commands.specs.Laws.{ReaderLaw};
 
 use crate::command::Command;
@@ -27,27 +27,18 @@ fn read_operands<'a>(letter: char, bytes: &'a [u8]) -> Result<(Command, &'a [u8]
         'T' => read_tell(bytes),
         'P' => read_put(bytes),
         'G' => read_get(bytes),
-        'H' => {
-            let ((site, partition), rest) = read_server(bytes)?;
-            Ok((Command::Heartbeat { site, partition }, rest))
-        }
+        'H' => read_server(
+            bytes,
+            |site, partition| Command::Heartbeat { site, partition },
+        ),
         'D' => read_deliver(bytes),
-        'R' => {
-            let ((site, partition), rest) = read_server(bytes)?;
-            Ok((Command::Report { site, partition }, rest))
-        }
-        'U' => {
-            let ((site, partition), rest) = read_server(bytes)?;
-            Ok((Command::Stabilise { site, partition }, rest))
-        }
-        'C' => {
-            let ((site, partition), rest) = read_server(bytes)?;
-            Ok((Command::Tidy { site, partition }, rest))
-        }
-        'Q' => {
-            let ((site, partition), rest) = read_server(bytes)?;
-            Ok((Command::Lead { site, partition }, rest))
-        }
+        'R' => read_server(bytes, |site, partition| Command::Report { site, partition }),
+        'U' => read_server(
+            bytes,
+            |site, partition| Command::Stabilise { site, partition },
+        ),
+        'C' => read_server(bytes, |site, partition| Command::Tidy { site, partition }),
+        'Q' => read_server(bytes, |site, partition| Command::Lead { site, partition }),
         'V' => read_view(bytes),
         _ => Err(Refusal::UnknownLetter),
     }
@@ -176,12 +167,16 @@ fn read_view<'a>(bytes: &'a [u8]) -> Result<(Command, &'a [u8]), Refusal>
     ))
 }
 
-// A site and a partition.
-fn read_server<'a>(bytes: &'a [u8]) -> Result<((u8, u8), &'a [u8]), Refusal>
-    ensures { rested result ≡ taken 2 pair bytes.now }
+// A command of one server, made of the site and the partition that stand there.
+fn read_server<'a, F: FnOnce(u8, u8) -> Command>(
+    bytes: &'a [u8],
+    command: F,
+) -> Result<(Command, &'a [u8]), Refusal>
+    requires { F.IsAlwaysCallable command }
+    ensures { ServerRead (F.post command) bytes.now (rested result) }
 {
     let [site, partition, rest @ ..] = bytes else {
         return Err(Refusal::ShortCommand);
     };
-    Ok(((*site, *partition), rest))
+    Ok((command(*site, *partition), rest))
 }

@@ -4,4 +4,3 @@ pub mod Lengths
 pub mod LinesLeft
 pub mod ListingSteps
 pub mod Stepping
-pub mod Viewing

@@ -9,7 +9,7 @@ abbrev pub text_of : Line → List ℕ
 text_of line = items line.text
 
 -- more text at the end of a line of at most 96 bytes
-abbrev pub onto : List ℕ → List ℕ → List ℕ
+unfoldable pub onto : List ℕ → List ℕ → List ℕ
 onto text more = take 96 (text ++ more)
 
 -- a letter that no command has is listed as a question mark, 63

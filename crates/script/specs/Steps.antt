@@ -1,5 +1,5 @@
 -- What a command does to a group, by the calls that it makes.
-use Rattle.std.specs.Prelude.{ℕ, Ok, Err, Result}
+use Rattle.std.specs.Prelude.{◌≡◌, ℕ, Ok, Err, Result, MatchResult}
 use Rattle.stamps.specs.declared.refusal.Refusal.{Refusal}
 use Rattle.stamps.specs.declared.refusal.Refusal.TheVariants.{LayoutMisplaced}
 use Rattle.marks.specs.Kinds.{Kind}
@@ -11,6 +11,7 @@ use Rattle.model.specs.Calls.{asked}
 use Rattle.commands.specs.declared.command.Command.{Command}
 use Rattle.commands.specs.declared.command.Command.TheVariants.{Layout, OpenSession, Tell, Put, Get, Heartbeat, Deliver, Report, Stabilise, Tidy, Lead, View}
 use Rattle.script.specs.declared.answer.Answer.{Answer}
+use Rattle.script.specs.declared.answer.Answer.TheVariants.{Refused}
 use Rattle.script.specs.Answers.{Said, done, count, number, stamped, shown, both, refused, said}
 
 -- an answer that was given, said in some way, or the refusal
@@ -58,3 +59,7 @@ performed rule k g (View session partition first second) = going_on (viewed rule
 abbrev pub said_or : Result Answer Refusal → Result Said Refusal
 said_or (Ok a) = Ok (said a)
 said_or (Err why) = Err why
+
+-- an answer that is made of what was given, or the refusal
+abbrev pub SaidBy : {A : Type 0} → (A → Answer → Type 0) → Result A Refusal → Answer → Type 0
+SaidBy says res answer = MatchResult res (λ x. says x answer) (λ why. answer ≡ Refused why)

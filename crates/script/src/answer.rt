@@ -14,5 +14,6 @@ pub enum Answer {
     Shown(Option<Shown>),
     // What the two reads of a snapshot answer.
     Both(Result<Option<Shown>, Refusal>, Result<Option<Shown>, Refusal>),
+    // A refused call answers too, in a line of its own; only a refusal in an `Err` ends the listing.
     Refused(Refusal),
 }

@@ -1,11 +1,12 @@
 // Bytes and numbers put at the end of a line.
-ghost use Rattle.std.specs.Prelude.{◌≡◌, ◌≤◌, [], ◌∷◌, length, decimal as digits_of};
-ghost use Rattle.std.specs.Fmt.{signed_decimal as signed_digits};
+ghost use Rattle.std.specs.Prelude.{◌≡◌, [], ◌∷◌};
 ghost use Rattle.script.specs.Lines.{text_of, onto};
 
 use super::Line;
 use fixed_vec::FixedVec;
+use itoa::{Buffer, Integer};
 
+#[tactic(auto, using(crate::proofs::Lengths::bytes))]
 impl Line {
     pub(crate) fn new() -> Line
         ensures { text_of result ≡ [] }
@@ -35,27 +36,11 @@ impl Line {
         }
     }
 
-    // A number in decimal digits.
-    pub(crate) fn decimal(&mut self, number: u64)
-        ensures { text_of self.new ≡ onto (text_of self.old) (digits_of number) }
-    {
-        if number >= 100 {
-            self.decimal(number / 100);
-            self.byte(b'0' + (number / 10 % 10) as u8);
-        } else if number >= 10 {
-            self.byte(b'0' + (number / 10) as u8);
-        }
-        self.byte(b'0' + (number % 10) as u8);
-    }
-
     // A number in decimal digits, with a minus in front if it is below 0.
-    pub(crate) fn signed(&mut self, number: i64)
-        ensures text { text_of self.new ≡ onto (text_of self.old) (signed_digits number) }
-        ensures short { length (signed_digits number) ≤ 20 }
+    pub(crate) fn number<I: Integer>(&mut self, number: I)
+        ensures { text_of self.new ≡ onto (text_of self.old) (I.text number) }
     {
-        if number < 0 {
-            self.byte(b'-');
-        }
-        self.decimal(number.unsigned_abs());
+        let mut digits = Buffer::new();
+        self.text(digits.format(number).as_bytes());
     }
 }

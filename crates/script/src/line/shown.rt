@@ -13,6 +13,7 @@ use servers::value::{Basis, Value};
 use stamps::refusal::Refusal;
 use stamps::stamp::Stamp;
 
+#[tactic(auto, using(crate::proofs::Lengths::pieces))]
 impl Line {
     pub(crate) fn answer(&mut self, answer: Answer)
         ensures text { text_of self.new ≡ onto (text_of self.old) (printed (said answer)) }
@@ -20,8 +21,8 @@ impl Line {
     {
         match answer {
             Answer::Done => self.text(b"ok"),
-            Answer::Count(number) => self.decimal(number),
-            Answer::Number(number) => self.signed(number),
+            Answer::Count(number) => self.number(number),
+            Answer::Number(number) => self.number(number),
             Answer::Stamped(stamp) => self.stamp(stamp),
             Answer::Shown(version) => self.shown(version),
             Answer::Both(first, second) => {
@@ -63,7 +64,7 @@ impl Line {
         self.byte(b' ');
         self.stamp(version.stamp);
         self.byte(b' ');
-        self.decimal(u64::from(version.source.number()));
+        self.number(version.source.number());
     }
 
     fn value(&mut self, value: Value)
@@ -94,7 +95,7 @@ impl Line {
         ensures short { length (digits_of number) ≤ 10 }
     {
         self.text(word);
-        self.decimal(u64::from(number));
+        self.number(number);
     }
 
     // A stamp as its time and its count.
@@ -102,16 +103,16 @@ impl Line {
         ensures text { text_of self.new ≡ onto (text_of self.old) (stamp_text stamp.value) }
         ensures short { length (stamp_text stamp.value) ≤ 21 }
     {
-        self.decimal(stamp.time());
+        self.number(stamp.time());
         self.byte(b'.');
-        self.decimal(stamp.count());
+        self.number(stamp.count());
     }
 
     fn refusal(&mut self, why: Refusal)
         ensures text { text_of self.new ≡ onto (text_of self.old) (refusal_text why) }
-        ensures short { length (refusal_text why) ≤ 5 }
+        ensures short { length (refusal_text why) ≤ 6 }
     {
         self.text(b"no ");
-        self.decimal(u64::from(why.number()));
+        self.number(why.number());
     }
 }
