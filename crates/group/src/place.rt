@@ -26,7 +26,7 @@ pub(crate) fn site_of(number: u8) -> Site
     requires { number < 4 }
     ensures { result.number ≡ number }
 {
-    match Site::new(number) {
+    match Site::try_from(number) {
         Ok(site) => site,
         Err(_) => unreachable(),
     }

@@ -4,3 +4,4 @@ pub mod Lengths
 pub mod LinesLeft
 pub mod ListingSteps
 pub mod Stepping
+pub mod Viewing

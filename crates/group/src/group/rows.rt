@@ -65,7 +65,7 @@ impl<C: ClockRule, K: MarkKind> Group<C, K> {
         ensures { option_map row_numbers result ≡ cut_in (view self.now) site.number (option_map seat_state seat) }
     {
         let seat = seat?;
-        if self.session_at(seat.session).site.number() != site.number() {
+        if self.session_at(seat.session).site != site {
             return None;
         }
         Some(seat.cut)

@@ -16,7 +16,7 @@ impl Draft {
         ensures { counts_of result ≡ checked_counts self.sites self.partitions }
     {
         let Draft { sites, partitions } = self;
-        let sites = SiteCount::new(sites)?;
+        let sites = SiteCount::try_from(sites)?;
         if partitions < 1 || partitions > 4 {
             return Err(Refusal::BadLayout);
         }
@@ -44,7 +44,7 @@ impl Layout {
         if number >= self.sites.number() {
             return Err(Refusal::NotInLayout);
         }
-        Site::new(number)
+        Site::try_from(number)
     }
 
     // A partition of the layout.
