@@ -11,12 +11,12 @@ use stamps::stamp::Stamp;
 use std::test::Fail;
 
 fn raw_server() -> Result<Server<Raw, One>, Refusal> {
-    Ok(Server::new(Site::try_from(0u8)?, SiteCount::try_from(2u8)?))
+    Ok(Server::new(Site::try_from(0)?, SiteCount::try_from(2)?))
 }
 
 // A server of one of three sites.
 fn hybrid_server(site: u8) -> Result<Server<Hybrid, One>, Refusal> {
-    Ok(Server::new(Site::try_from(site)?, SiteCount::try_from(3u8)?))
+    Ok(Server::new(Site::try_from(site)?, SiteCount::try_from(3)?))
 }
 
 // A price put by a session that has seen nothing.
@@ -44,10 +44,10 @@ fn values_at_the_edges(rt: HostRuntime) -> Result<(), Fail> {
 
 #[test]
 fn layouts_have_2_to_4_sites(rt: HostRuntime) -> Result<(), Fail> {
-    assert_eq!(rt; SiteCount::try_from(1u8).err(), Some(Refusal::BadLayout));
-    assert_eq!(rt; SiteCount::try_from(2u8)?.number(), 2);
-    assert_eq!(rt; SiteCount::try_from(4u8)?.number(), 4);
-    assert_eq!(rt; SiteCount::try_from(5u8).err(), Some(Refusal::BadLayout));
+    assert_eq!(rt; SiteCount::try_from(1).err(), Some(Refusal::BadLayout));
+    assert_eq!(rt; SiteCount::try_from(2)?.number(), 2);
+    assert_eq!(rt; SiteCount::try_from(4)?.number(), 4);
+    assert_eq!(rt; SiteCount::try_from(5).err(), Some(Refusal::BadLayout));
     Ok(())
 }
 
@@ -127,7 +127,7 @@ fn an_outbox_holds_16_entries(rt: HostRuntime) -> Result<(), Fail> {
 #[test]
 fn the_slowest_site_empties_the_outbox(rt: HostRuntime) -> Result<(), Fail> {
     let mut server = hybrid_server(0)?;
-    let (fast, slow) = (Site::try_from(1u8)?, Site::try_from(2u8)?);
+    let (fast, slow) = (Site::try_from(1)?, Site::try_from(2)?);
     for _ in 0..16 {
         server.heartbeat()?;
         server.hand_over(fast);
@@ -158,14 +158,14 @@ fn a_site_takes_each_entry_once(rt: HostRuntime) -> Result<(), Fail> {
 fn a_server_takes_no_entry_of_its_own(rt: HostRuntime) -> Result<(), Fail> {
     let mut server = hybrid_server(0)?;
     put_price(&mut server, 1, 5)?;
-    let Some(entry) = server.next_for(Site::try_from(1u8)?) else {
+    let Some(entry) = server.next_for(Site::try_from(1)?) else {
         return Err(Fail::new("nothing waits"));
     };
     assert_eq!(rt;
-        server.take(Site::try_from(0u8)?, entry),
+        server.take(Site::try_from(0)?, entry),
         Err(Refusal::NotInLayout)
     );
-    assert_eq!(rt; server.take(Site::try_from(1u8)?, entry), Ok(()));
+    assert_eq!(rt; server.take(Site::try_from(1)?, entry), Ok(()));
     Ok(())
 }
 
@@ -176,7 +176,7 @@ fn a_table_holds_32_versions(rt: HostRuntime) -> Result<(), Fail> {
     for _ in 0..32 {
         put_price(&mut writer, 1, 5)?;
         pass(&mut writer, 0, &mut taker, 1)?;
-        writer.hand_over(Site::try_from(2u8)?);
+        writer.hand_over(Site::try_from(2)?);
     }
     assert_eq!(rt;
         put_price(&mut writer, 1, 5).err(),
