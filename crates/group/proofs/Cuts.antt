@@ -3,7 +3,7 @@ use Rattle.std.proofs.Common.{◌≡◌, ℕ, ◌+◌, ◌<◌, Bool, true, fals
 use Rattle.std.proofs.lemmas.Bool.{ltb-true}
 use Rattle.std.proofs.lemmas.List.{drop_more, get_or-map, length-map}
 use Rattle.std.specs.List.{position_or_len}
-use Rattle.std.specs.Option.{option_map}
+use Rattle.std.specs.Option.{is_none, option_map}
 use Rattle.fixed_vec.specs.Items.{pushed}
 use Rattle.fixed_vec.specs.declared.fixed_vec.Full.{Full}
 use Rattle.stamps.specs.Rows.{Four, four}
@@ -11,7 +11,7 @@ use Rattle.stamps.specs.declared.row.Row.{Row}
 use Rattle.marks.specs.CommonFloors.{numbers}
 use Rattle.model.specs.Groups.{GroupState, SeatState, cuts_of, lowest_free, session_at}
 use Rattle.group.specs.declared.seat.Seat.{Seat}
-use Rattle.group.specs.Sessions.{cut_in, free_seat, is_none, seat_state}
+use Rattle.group.specs.Sessions.{cut_in, free_seat, seat_state}
 use Rattle.group.proofs.Rows.{numbers_push, pushed_room}
 
 -- a seat with a cut of the site

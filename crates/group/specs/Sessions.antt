@@ -1,5 +1,5 @@
 -- Sessions and open snapshots in plain numbers.
-use Rattle.std.specs.Prelude.{ℕ, Bool, true, false, cond, List, map, length, Some, None, Ok, Err, Option, Result, ◌==◌, nat_lt}
+use Rattle.std.specs.Prelude.{ℕ, cond, List, map, length, Some, None, Ok, Err, Option, Result, ◌==◌, nat_lt}
 use Rattle.std.specs.Option.{option_map}
 use Rattle.stamps.specs.declared.refusal.Refusal.{Refusal}
 use Rattle.stamps.specs.declared.refusal.Refusal.TheVariants.{NotOpen}
@@ -19,10 +19,6 @@ seat_state y = record { session = y.session; serial = y.serial; cut = four y.cut
 -- the four seats, each free or with its open snapshot
 abbrev pub seat_states : Seats → List (Option SeatState)
 seat_states s = map (option_map seat_state) s.places
-
-abbrev pub is_none : {A : Type 0} → Option A → Bool
-is_none None = true
-is_none (Some x) = false
 
 -- the lowest free seat, if one is free
 abbrev pub free_seat : List (Option SeatState) → Option ℕ

@@ -1,7 +1,7 @@
 // The methods of `Seats`.
 ghost use Rattle.std.specs.Prelude.{◌≡◌, [], ◌∷◌, map, None as Free, position, slice_index_or, slice_set};
-ghost use Rattle.std.specs.Option.{option_map};
-ghost use Rattle.group.specs.Sessions.{free_seat, is_none, seat_state, seat_states};
+ghost use Rattle.std.specs.Option.{is_none, option_map};
+ghost use Rattle.group.specs.Sessions.{free_seat, seat_state, seat_states};
 
 use super::{SEAT_COUNT, Seats};
 use crate::seat::Seat;
