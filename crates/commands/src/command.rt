@@ -1,7 +1,7 @@
 // The commands of a script, with their operands as they were read.
 
-// Operands are numbers and letters of any value: which of them are lawful is judged later, where the refusals have their
-// order.
+// Operands are numbers and letters of any value, also where only some are lawful: what is unlawful is refused later, in the
+// order of the refusals.
 #[derive(Clone, Copy, PartialEq, Eq, Debug)]
 pub enum Command {
     // L

@@ -7,7 +7,7 @@ use std::alloc::AllocError;
 #[derive(Clone, Copy, PartialEq, Eq, Debug)]
 pub struct Full;
 
-// Which items are to stay. A trait and no closure: that a closure may be called would have to be asked of the caller.
+// Which items are to stay. A trait and no closure, with which `retain` would need a `requires`.
 pub trait Keeps<T> {
     ghost keeps: { Self → T → Bool };
 
@@ -16,7 +16,7 @@ pub trait Keeps<T> {
 }
 
 // The items are the first `len` cells; the cells after them hold anything. They are held in place, since the store takes no
-// memory while it runs.
+// memory while it runs; and it is no `ArrayVec` of the library, which cannot be `Copy`.
 pub struct FixedVec<T, const N: usize> {
     cells: [T; N],
     len: usize,

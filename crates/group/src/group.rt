@@ -9,6 +9,8 @@ use stamps::clock_rule::ClockRule;
 
 pub const MOST_SESSIONS: usize = 8;
 
+// Its calls take plain numbers, and refuse those that the layout lacks.
+//
 // The servers stand site by site, four to a site. Those outside the layout are never used.
 // One array, as a call of an element of an array of arrays gets no proof where the element has ghost fields.
 #[derive(Drop)]

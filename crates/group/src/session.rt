@@ -7,8 +7,8 @@ use stamps::row::Row;
 use stamps::site::Site;
 use stamps::stamp::Stamp;
 
-// The marks are kept as their rows. Depends stands for what the session has put and was shown, knows for the stable
-// marks that it has met.
+// The marks are kept as their rows, so that a session is not generic. `depends` stands for what the session has put and was
+// shown, `knows` for the stable marks that it has met.
 #[derive(Clone, Copy)]
 pub(crate) struct Session {
     pub(crate) site: Site,

@@ -13,8 +13,8 @@ use stamps::raw::Raw;
 // Time 100 as a stamp.
 const T100: u64 = 6_553_600;
 
-// What the code answers to the edges, as the numbers that a program in C gets: a stamp or minus the refusal's number, or the
-// four entries of a floor.
+// What the code answers to the edges, as plain numbers: a stamp, or minus the refusal's number, as the static library
+// answers it; and the four entries of a floor.
 pub struct EdgeAnswers {
     pub hybrid: [i64; 3],
     pub raw: [i64; 3],

@@ -14,6 +14,6 @@ pub enum Answer {
     Shown(Option<Shown>),
     // What the two reads of a snapshot answer.
     Both(Result<Option<Shown>, Refusal>, Result<Option<Shown>, Refusal>),
-    // A refused call answers too, in a line of its own; only a refusal in an `Err` ends the listing.
+    // A case and no `Err`: a refusal is printed like any answer, whether or not the listing goes on.
     Refused(Refusal),
 }

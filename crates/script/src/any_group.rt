@@ -34,6 +34,7 @@ impl Obeys for AnyGroup {
     ghost obeying = { obeyed };
 
     fn obey(&mut self, command: Command) -> Result<Answer, Refusal> {
+        // The pairs are all known; a `dyn` would need memory.
         match self {
             AnyGroup::Unmade => self.make(command),
             AnyGroup::RawOne(group) => perform(group, command),

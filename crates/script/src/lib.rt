@@ -3,11 +3,11 @@
 
 pub mod answer;
 pub mod any_group;
-pub mod choice;
+mod choice;
 pub mod line;
 pub mod list;
 pub mod listing;
 pub mod obeys;
-pub mod perform;
+mod perform;
 pub mod script;
 pub mod worked_case;

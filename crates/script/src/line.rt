@@ -5,8 +5,7 @@ use fixed_vec::FixedVec;
 pub const MOST_BYTES: usize = 96;
 
 // What does not fit any more is left out; the lines of a listing all fit.
-// Each kind of answer has a method that puts its text here, and no `Display`: `write!` promises its bytes only where it
-// answers `Ok`, and nothing promises that it does, so with it no line would be known byte for byte.
+// Answers are put here by methods and no `Display`: `write!` promises its bytes only at `Ok`, and nothing promises `Ok`.
 #[derive(Clone, Copy)]
 pub(crate) struct Line {
     text: FixedVec<u8, MOST_BYTES>,

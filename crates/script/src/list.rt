@@ -36,7 +36,7 @@ pub fn list_into(bytes: &[u8], buffer: &mut [u8]) -> Result<usize, Refusal>
     Ok(write_lines(bytes, buffer))
 }
 
-// Whether so many bytes are 96 for each line. A line takes at least one byte of the script, so the lines need not be counted
+// Whether a buffer of a length has 96 bytes for each line. A line takes at least one byte of the script, so the lines need not be counted
 // where there is room for as many as there are bytes.
 fn has_room(bytes: &[u8], len: usize) -> bool
     ensures { result ≡ nat_le (96 * length (lines_of bytes.now)) len }
@@ -45,7 +45,7 @@ fn has_room(bytes: &[u8], len: usize) -> bool
     lines >= bytes.len() || lines >= count_lines(bytes)
 }
 
-// The same with a buffer that is known to be long enough.
+// Writes the lines where the buffer is known to be long enough, and answers their length.
 fn write_lines(bytes: &[u8], buffer: &mut [u8]) -> usize
     requires { 96 * length (lines_of bytes.now) ≤ length buffer.old }
     ensures len { result ≡ length (listing bytes.now) }
@@ -54,7 +54,7 @@ fn write_lines(bytes: &[u8], buffer: &mut [u8]) -> usize
     ensures law { ListingLaw bytes.now (take result buffer.new) }
 {
     let mut script = Script::new(bytes);
-    // Where the next line goes. Only a line that is written has a length, so no iterator cuts the buffer for the lines.
+    // Where the next line goes. No iterator cuts the buffer: only a line that is written has a length.
     let mut end = 0;
     'lines: while !script.has_ended() {
         end += script.write_next(&mut buffer[end..]);
@@ -62,7 +62,8 @@ fn write_lines(bytes: &[u8], buffer: &mut [u8]) -> usize
     end
 }
 
-// How many lines the listing of a script has. The commands alone decide where it ends, whatever a group answers.
+// How many lines the listing of a script has. The commands alone decide where it ends, whatever a group answers. No
+// iterator: the first command is tested otherwise than the rest.
 fn count_lines(bytes: &[u8]) -> usize
     ensures count { result ≡ length (lines_of bytes.now) }
     ensures few { result ≤ 65535 }
@@ -77,7 +78,8 @@ fn count_lines(bytes: &[u8]) -> usize
     count
 }
 
-// What is left after the next command: nothing if it ends the listing.
+// What is left after the next command: nothing if it ends the listing. Lines are counted without a group, so whether one
+// was made is told.
 fn rest_after<'a>(bytes: &'a [u8], made: bool) -> &'a [u8]
     requires { 0 < length bytes.now }
     ensures left { result.now ≡ left_after made bytes.now }

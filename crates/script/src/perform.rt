@@ -68,7 +68,7 @@ pub(crate) fn perform<C: ClockRule, K: MarkKind>(
     Ok(answer)
 }
 
-// What a call answers, said in its way, or its refusal.
+// The answer that `say` makes of what a call gives, or its refusal.
 fn said<T, F: FnOnce(T) -> Answer>(res: Result<T, Refusal>, say: F) -> Answer
     requires { F.IsAlwaysCallable say }
     ensures { SaidBy (F.post say) res result }

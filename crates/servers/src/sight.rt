@@ -7,7 +7,8 @@ use crate::version::Version;
 use marks::mark_kind::MarkKind;
 use stamps::site::Site;
 
-// A test of versions. A trait and no closure: at a call that passes a closure, what it shows cannot be picked for the contract.
+// A test of versions, by what it means of their plain state. A trait and no closure: tried, and at a call that passes a
+// closure what it shows cannot be picked for the contract.
 pub(crate) trait Sight {
     ghost shows: { Self → VersionState → Bool };
 

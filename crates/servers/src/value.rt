@@ -47,6 +47,7 @@ impl Value {
         }
     }
 
+    // Its kind byte in a script.
     pub fn kind(self) -> u8
         ensures { result ≡ kind_of (worth self) }
     {
@@ -58,6 +59,7 @@ impl Value {
         }
     }
 
+    // Its amount in a script.
     pub fn amount(self) -> u32
         ensures { result ≡ amount_of (worth self) }
     {

@@ -40,6 +40,7 @@ pub enum Refusal {
 }
 
 impl Refusal {
+    // Its number in a listing.
     pub fn number(self) -> u8
         ensures { result ≡ number_of self }
     {

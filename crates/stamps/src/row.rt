@@ -1,4 +1,4 @@
-// A row: a stamp for each site number.
+// A row: a stamp for each site number. Numbers and no `Stamp`s, since clauses speak of the four numbers.
 ghost use Rattle.std.specs.Prelude.{◌≡◌, length};
 ghost use Rattle.stamps.specs.Rows.{Stamps, four};
 

@@ -28,7 +28,10 @@ fn numbers_past_the_range_are_refused(rt: HostRuntime) -> Result<(), Fail> {
     assert_eq!(rt; Reading::try_from(1 << 47).err(), Some(Refusal::Unlawful));
     assert_eq!(rt; Site::try_from(3)?.number(), 3);
     assert_eq!(rt; Site::try_from(4).err(), Some(Refusal::NotInLayout));
-    assert_eq!(rt; Row::try_from([0, 0, 1 << 63, 0]).err(), Some(Refusal::Unlawful));
+    assert_eq!(rt;
+        Row::try_from([0, 0, 1 << 63, 0]).err(),
+        Some(Refusal::Unlawful)
+    );
     Ok(())
 }
 

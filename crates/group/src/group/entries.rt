@@ -20,7 +20,8 @@ use stamps::refusal::Refusal;
 use stamps::stamp::Stamp;
 
 impl<C: ClockRule, K: MarkKind> Group<C, K> {
-    // A new version of a key, made at the session's server.
+    // A new version of a key, made at the session's server. Its value comes as numbers, since they are judged after the
+    // session.
     pub fn put(&mut self, session: u8, key: u16, kind: u8, amount: u32) -> Result<Stamp, Refusal>
         ensures step { (stamp_number result, view self.new) ≡ asked C.ClockRule.answer K.MarkKind.kind (view self.old) (Put session key kind amount) }
         ensures keeps { RefusalKeeps result (view self.old) (view self.new) }

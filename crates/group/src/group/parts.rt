@@ -24,6 +24,7 @@ use stamps::refusal::Refusal;
 use stamps::site::Site;
 use stamps::stamp::Stamp;
 
+// A method for each call of a server of the array: a function that lends one of them gets no proof.
 impl<C: ClockRule, K: MarkKind> Group<C, K> {
     pub(crate) fn server(&self, place: Place) -> &Server<C, K>
         ensures { server_view result.now ≡ server_at (view self.now) place }
@@ -80,7 +81,7 @@ impl<C: ClockRule, K: MarkKind> Group<C, K> {
         (number as usize) < self.sessions.len()
     }
 
-    // The session of a number; one at site 0 as it is opened if there is none.
+    // The session of a number; one at site 0 as it is opened if there is none, as in the model.
     pub(crate) fn session_at(&self, number: u8) -> Session
         ensures { session_state result ≡ session_at (view self.now) number }
     {

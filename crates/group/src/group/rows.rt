@@ -31,6 +31,7 @@ impl<C: ClockRule, K: MarkKind> Group<C, K> {
         requires { F.IsAlwaysCallable row_of }
         ensures { RowsOf (λ s r. FnReturnsAt F.Fn row_of s r) ((view self.now).server site.number) (view self.now).partitions (items result) }
     {
+        // Never full: a site has at most four servers, and there are four seats.
         let mut rows = FixedVec::new(Row::same(Stamp::zero()));
         for server in self.servers_of(site) {
             let _ = rows.push(row_of(server));

@@ -94,6 +94,7 @@ impl<C: ClockRule, K: MarkKind> Group<C, K> {
         ensures step { (result, view self.new) ≡ asked C.ClockRule.answer K.MarkKind.kind (view self.old) (Close (ticket_state ticket)) }
         ensures keeps { RefusalKeeps result (view self.old) (view self.new) }
     {
+        // The ticket is taken apart before a refusal is answered, since it cannot be let go.
         let open = self.open_seat(&ticket);
         let Ticket { seat, serial: _ } = ticket;
         let _ = open?;

@@ -70,7 +70,7 @@ impl Layout {
     pub fn has_server(&self, site: u8, partition: u8) -> bool
         ensures { result ≡ has_server self.now.sites.number self.now.partitions site partition }
     {
-        site < self.sites.number() && partition < self.partitions
+        self.place(site, partition).is_ok()
     }
 
     // Where the server of a site and a partition stands.

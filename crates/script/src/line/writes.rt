@@ -18,8 +18,7 @@ pub(crate) fn write_line(buffer: &mut [u8], number: u32, letter: char, answer: A
     line.command(number, letter, answer);
     let text = line.as_slice();
     let len = text.len();
-    let part = &mut buffer[0..len];
-    part.copy_from_slice(text);
+    buffer[..len].copy_from_slice(text);
     len
 }
 

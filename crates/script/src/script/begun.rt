@@ -38,7 +38,7 @@ impl<'a> Script<'a> {
         }
     }
 
-    // The first line as `next_line` gives it: none if a line was listed before.
+    // The first line as `next_line` gives it, which refuses a short buffer first: none if a line was listed before.
     pub fn first_line(&mut self, buffer: &mut [u8]) -> Result<Option<usize>, Refusal>
         ensures value { (result, view store self.new, buffer.new) ≡ line_into first (view store self.old) buffer.old }
         ensures short { IfOk result AtMost96 }

@@ -33,18 +33,12 @@ impl Counts {
         ensures { counts result ≡ one_more own.number sites.number (counts self.now) }
     {
         let [a, b, c, d] = self.numbers;
-        let [e, f, g, h] = [
-            sites.has_other(own, 0),
-            sites.has_other(own, 1),
-            sites.has_other(own, 2),
-            sites.has_other(own, 3),
-        ];
         Counts {
             numbers: [
-                a + u8::from(e),
-                b + u8::from(f),
-                c + u8::from(g),
-                d + u8::from(h),
+                a + u8::from(sites.has_other(own, 0)),
+                b + u8::from(sites.has_other(own, 1)),
+                c + u8::from(sites.has_other(own, 2)),
+                d + u8::from(sites.has_other(own, 3)),
             ],
         }
     }

@@ -1,4 +1,4 @@
-// A server's part of the calls that tell its clock and send its entries.
+// A server's part of the calls that tell its clock, write, and send and take entries.
 ghost use Rattle.std.specs.Prelude.{◌≡◌, false, ◌==◌};
 ghost use Rattle.stamps.specs.Checks.{stamp_number};
 ghost use Rattle.stamps.specs.Refusals.{RefusalKeeps};
@@ -70,22 +70,6 @@ impl<C: ClockRule, K: MarkKind> Server<C, K> {
         if self.outbox.is_full() {
             return Err(Refusal::OutboxFull);
         }
-        self.put_with_room(key, value, depends, knows)
-    }
-
-    // The same, where the table and the outbox have room.
-    fn put_with_room(
-        &mut self,
-        key: u16,
-        value: Value,
-        depends: K::Mark,
-        knows: K::Mark,
-    ) -> Result<Stamp, Refusal>
-        requires { (table_full (view self.old).held ≡ false) × (outbox_full (view self.old).site (view self.old).sites (view self.old).waiting ≡ false) }
-        ensures step { (stamp_number result, view self.new) ≡ putting_at K.MarkKind.kind (view self.old) key (worth value) (K.MarkKind.meaning depends) (K.MarkKind.meaning knows) (C.ClockRule.answer (last_of (view self.old)) (view self.old).reading (greatest (K.MarkKind.meaning depends))) }
-        ensures rises { Above (last_of (view self.old)) (stamp_number result) }
-        ensures keeps { RefusalKeeps result (view self.old) (view self.new) }
-    {
         let source = self.outbox.own();
         let mark = K::row(depends);
         let stamp = self.next_stamp(mark.greatest())?;
@@ -147,7 +131,7 @@ impl<C: ClockRule, K: MarkKind> Server<C, K> {
         site == self.outbox.own()
     }
 
-    // The same from another site.
+    // Takes an entry of a server that stands at another site.
     fn take_other(&mut self, from: Site, entry: Entry) -> Result<(), Refusal>
         ensures step { (result, view self.new) ≡ taking_other (view self.old) from.number (sent entry) }
         ensures keeps { RefusalKeeps result (view self.old) (view self.new) }

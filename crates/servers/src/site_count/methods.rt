@@ -28,7 +28,7 @@ impl SiteCount {
         self.number
     }
 
-    // Whether a site is one of them, and not the given one.
+    // Whether a number is that of another site than the given one.
     pub(crate) fn has_other(self, own: Site, site: u8) -> bool
         ensures { result ≡ is_other own.number self.number site }
     {

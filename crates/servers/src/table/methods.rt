@@ -33,21 +33,21 @@ impl VersionTable {
         let _ = self.versions.push(version);
     }
 
-    // Drops every version that a later one of its key, covered by the safe mark, stands in for; how many.
+    // Drops every version that has a later one of its key that the safe mark covers, and answers how many.
     pub(crate) fn tidy<K: MarkKind>(&mut self, safe: K::Mark) -> usize
         ensures step { (result, held self.new) ≡ tidying K.MarkKind.kind (K.MarkKind.meaning safe) (held self.old) }
         ensures law { IsTidied K.MarkKind.kind (K.MarkKind.meaning safe) (held self.old) (held self.new) result }
     {
-        let before = self.versions.len();
+        let before = self.versions;
         let needed = Needed::<K> {
-            versions: self.versions,
+            versions: before.as_slice(),
             safe,
         };
         self.versions.retain(&needed);
-        before - self.versions.len()
+        before.len() - self.versions.len()
     }
 
-    // The latest version of a key that is shown. The search keeps its place, since a version is large to copy.
+    // The latest version of a key that is shown. The search keeps its place, and copies one version at the end.
     pub(crate) fn latest<S: Sight>(&self, key: u16, sight: &S) -> Option<Version>
         ensures value { shown result ≡ latest_of (S.Sight.shows sight.now) key (held self.now) }
         ensures law { IsLatest (S.Sight.shows sight.now) key (held self.now) (shown result) }
