@@ -61,10 +61,7 @@ impl<C: ClockRule, K: MarkKind> Group<C, K> {
         }
         let partition = self.layout.partition_of(key);
         let place = self.learn(session, partition);
-        let Some(version) = self.server(place).latest_visible(key) else {
-            return Ok(None);
-        };
-        self.depend(session, &version);
-        Ok(Some(Shown::from(&version)))
+        let found = self.server(place).latest_visible(key);
+        Ok(self.show(session, found))
     }
 }

@@ -4,7 +4,10 @@ ghost use Rattle.stamps.specs.Checks.{stamp_number};
 ghost use Rattle.servers.specs.Entries.{sent};
 ghost use Rattle.servers.specs.Servers.{view as server_view, handing, putting, taking, raised, tidied_up};
 ghost use Rattle.model.specs.Groups.{with_session, session_at};
-ghost use Rattle.model.specs.Calls.{learning, counted};
+ghost use Rattle.std.specs.Option.{option_map};
+ghost use Rattle.model.specs.Calls.{learning, counted, showing};
+ghost use Rattle.servers.specs.Held.{shown};
+ghost use Rattle.group.specs.Answers.{shown_state};
 ghost use Rattle.servers.specs.Values.{worth};
 ghost use Rattle.servers.specs.Versions.{plain};
 ghost use Rattle.group.specs.Groups.{view, server_at, with_server_at, called_at, depending_on};
@@ -14,6 +17,7 @@ use super::Group;
 use crate::partition::Partition;
 use crate::place::{Place, site_of};
 use crate::session::Session;
+use crate::shown::Shown;
 use marks::mark_kind::MarkKind;
 use servers::entry::Entry;
 use servers::server::Server;
@@ -122,5 +126,14 @@ impl<C: ClockRule, K: MarkKind> Group<C, K> {
         let session = self.session_at(number);
         let depends = K::row(K::join(K::floor(session.depends), version.full_mark::<K>()));
         self.set_session(number, Session { depends, ..session });
+    }
+
+    // What is shown of the version that was found, if one was. The session depends on it from then on.
+    pub(crate) fn show(&mut self, session: u8, found: Option<Version>) -> Option<Shown>
+        ensures { (Done (option_map shown_state result), view self.new) ≡ showing K.MarkKind.kind (view self.old) session (shown found) }
+    {
+        let version = found?;
+        self.depend(session, &version);
+        Some(Shown::from(&version))
     }
 }

@@ -82,11 +82,8 @@ impl<C: ClockRule, K: MarkKind> Group<C, K> {
         };
         let cut = K::floor(seat.cut);
         self.raise(place, cut);
-        let Some(version) = self.server(place).latest_covered(key, cut) else {
-            return Ok(None);
-        };
-        self.depend(seat.session, &version);
-        Ok(Some(Shown::from(&version)))
+        let found = self.server(place).latest_covered(key, cut);
+        Ok(self.show(seat.session, found))
     }
 
     // The end of a snapshot. The ticket is taken in either case, done or refused.
