@@ -7,7 +7,7 @@ use crate::command::Command;
 use stamps::refusal::Refusal;
 
 // The first command of a script, and what is left after it.
-pub fn read<'a>(script: &'a [u8]) -> Result<(Command, &'a [u8]), Refusal>
+pub fn read(script: &[u8]) -> Result<(Command, &[u8]), Refusal>
     ensures value { rested result ≡ read_command script.now }
     ensures law { ReaderLaw script.now (rested result) }
 {
@@ -18,7 +18,7 @@ pub fn read<'a>(script: &'a [u8]) -> Result<(Command, &'a [u8]), Refusal>
 }
 
 // The command of a letter.
-fn read_operands<'a>(letter: char, bytes: &'a [u8]) -> Result<(Command, &'a [u8]), Refusal>
+fn read_operands(letter: char, bytes: &[u8]) -> Result<(Command, &[u8]), Refusal>
     ensures { rested result ≡ read_form (form_of letter) bytes.now }
 {
     match letter {
@@ -44,7 +44,7 @@ fn read_operands<'a>(letter: char, bytes: &'a [u8]) -> Result<(Command, &'a [u8]
     }
 }
 
-fn read_layout<'a>(bytes: &'a [u8]) -> Result<(Command, &'a [u8]), Refusal>
+fn read_layout(bytes: &[u8]) -> Result<(Command, &[u8]), Refusal>
     ensures { rested result ≡ formed layout_form bytes.now }
 {
     let [sites, partitions, clock, marks, rest @ ..] = bytes else {
@@ -63,7 +63,7 @@ fn read_layout<'a>(bytes: &'a [u8]) -> Result<(Command, &'a [u8]), Refusal>
     ))
 }
 
-fn read_open_session<'a>(bytes: &'a [u8]) -> Result<(Command, &'a [u8]), Refusal>
+fn read_open_session(bytes: &[u8]) -> Result<(Command, &[u8]), Refusal>
     ensures { rested result ≡ formed open_session_form bytes.now }
 {
     let [site, rest @ ..] = bytes else {
@@ -72,7 +72,7 @@ fn read_open_session<'a>(bytes: &'a [u8]) -> Result<(Command, &'a [u8]), Refusal
     Ok((Command::OpenSession { site: *site }, rest))
 }
 
-fn read_tell<'a>(bytes: &'a [u8]) -> Result<(Command, &'a [u8]), Refusal>
+fn read_tell(bytes: &[u8]) -> Result<(Command, &[u8]), Refusal>
     ensures { rested result ≡ formed tell_form bytes.now }
 {
     let [site, partition, a, b, c, d, e, f, rest @ ..] = bytes else {
@@ -90,7 +90,7 @@ fn read_tell<'a>(bytes: &'a [u8]) -> Result<(Command, &'a [u8]), Refusal>
     ))
 }
 
-fn read_put<'a>(bytes: &'a [u8]) -> Result<(Command, &'a [u8]), Refusal>
+fn read_put(bytes: &[u8]) -> Result<(Command, &[u8]), Refusal>
     ensures { rested result ≡ formed put_form bytes.now }
 {
     let [session, key_high, key_low, kind, a, b, c, d, rest @ ..] = bytes else {
@@ -110,7 +110,7 @@ fn read_put<'a>(bytes: &'a [u8]) -> Result<(Command, &'a [u8]), Refusal>
     ))
 }
 
-fn read_get<'a>(bytes: &'a [u8]) -> Result<(Command, &'a [u8]), Refusal>
+fn read_get(bytes: &[u8]) -> Result<(Command, &[u8]), Refusal>
     ensures { rested result ≡ formed get_form bytes.now }
 {
     let [session, key_high, key_low, rest @ ..] = bytes else {
@@ -121,7 +121,7 @@ fn read_get<'a>(bytes: &'a [u8]) -> Result<(Command, &'a [u8]), Refusal>
     Ok((Command::Get { session, key }, rest))
 }
 
-fn read_deliver<'a>(bytes: &'a [u8]) -> Result<(Command, &'a [u8]), Refusal>
+fn read_deliver(bytes: &[u8]) -> Result<(Command, &[u8]), Refusal>
     ensures { rested result ≡ formed deliver_form bytes.now }
 {
     let [from, to, partition, rest @ ..] = bytes else {
@@ -138,7 +138,7 @@ fn read_deliver<'a>(bytes: &'a [u8]) -> Result<(Command, &'a [u8]), Refusal>
     ))
 }
 
-fn read_view<'a>(bytes: &'a [u8]) -> Result<(Command, &'a [u8]), Refusal>
+fn read_view(bytes: &[u8]) -> Result<(Command, &[u8]), Refusal>
     ensures { rested result ≡ formed view_form bytes.now }
 {
     let [
@@ -168,10 +168,10 @@ fn read_view<'a>(bytes: &'a [u8]) -> Result<(Command, &'a [u8]), Refusal>
 }
 
 // A command of one server, made of the site and the partition that stand there.
-fn read_server<'a, F: FnOnce(u8, u8) -> Command>(
-    bytes: &'a [u8],
+fn read_server<F: FnOnce(u8, u8) -> Command>(
+    bytes: &[u8],
     command: F,
-) -> Result<(Command, &'a [u8]), Refusal>
+) -> Result<(Command, &[u8]), Refusal>
     requires { F.IsAlwaysCallable command }
     ensures { ServerRead (F.post command) bytes.now (rested result) }
 {

@@ -80,7 +80,7 @@ fn count_lines(bytes: &[u8]) -> usize
 
 // What is left after the next command: nothing if it ends the listing. Lines are counted without a group, so whether one
 // was made is told.
-fn rest_after<'a>(bytes: &'a [u8], made: bool) -> &'a [u8]
+fn rest_after(bytes: &[u8], made: bool) -> &[u8]
     requires { 0 < length bytes.now }
     ensures left { result.now ≡ left_after made bytes.now }
     ensures shorter { length result.now < length bytes.now }

@@ -9,6 +9,8 @@ ghost use Rattle.group.specs.Groups.{view, RowsOf, ServersOf};
 ghost use Rattle.group.specs.Sessions.{cut_in, row_numbers, seat_state};
 
 use super::Group;
+use crate::partition::Partition;
+use crate::place::Place;
 use crate::seat::Seat;
 use fixed_vec::FixedVec;
 use marks::mark_kind::MarkKind;
@@ -43,9 +45,12 @@ impl<C: ClockRule, K: MarkKind> Group<C, K> {
     fn servers_of(&self, site: Site) -> &[Server<C, K>]
         ensures { ServersOf self.now site.number result.now }
     {
-        let first = site.number() as usize * 4;
-        let servers = &self.servers[..];
-        &servers[first..first + self.layout.partitions() as usize]
+        let place = Place {
+            site,
+            partition: Partition { number: 0 },
+        };
+        let first = place.index();
+        &self.servers[first..first + self.layout.partitions() as usize]
     }
 
     // The stable marks of a site's servers, and the cuts of the open snapshots of its sessions.

@@ -12,7 +12,7 @@ use stamps::refusal::Refusal;
 pub const MOST_SCRIPT_BYTES: usize = 65_535;
 
 // The first bytes, at most so many.
-pub(crate) fn first_bytes<'a>(bytes: &'a [u8], most: usize) -> &'a [u8]
+pub(crate) fn first_bytes(bytes: &[u8], most: usize) -> &[u8]
     ensures bytes { result.now ≡ take most bytes.now }
     ensures few { length result.now ≤ most }
 {
@@ -20,7 +20,7 @@ pub(crate) fn first_bytes<'a>(bytes: &'a [u8], most: usize) -> &'a [u8]
 }
 
 // The bytes that are a script's.
-pub(crate) fn script_of<'a>(bytes: &'a [u8]) -> &'a [u8]
+pub(crate) fn script_of(bytes: &[u8]) -> &[u8]
     ensures rest { result.now ≡ (begun bytes.now).rest }
     ensures few { length result.now ≤ 65535 }
 {

@@ -26,6 +26,7 @@ impl<'a, G: Obeys> ScriptOver<'a, G> {
         Ok(Some(self.write_next(buffer)))
     }
 
+    // Asked before a line is written, since after the last one there may be no room for another.
     pub(crate) fn has_ended(&self) -> bool
         ensures { result ≡ (length self.now.rest.now == 0) }
     {
