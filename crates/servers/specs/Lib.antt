@@ -1,3 +1,4 @@
+pub mod Percents
 pub mod Values
 pub mod Versions
 pub mod Tables

@@ -39,8 +39,8 @@ pub record ServerState : Type 0 where
 abbrev pub view : {C K Mark : Type 0} → Server C K Mark → ServerState
 view s =
     record {
-      site = s.outbox.own.number;
-      sites = s.outbox.sites.number;
+      site = s.outbox.peers.own.number;
+      sites = s.outbox.peers.sites.number;
       reading = s.reading.time;
       marks = record { received = four s.received.entries; reported = four s.reported.entries; stable = four s.stable.entries };
       held = held s.table;

@@ -4,6 +4,7 @@
 mod counts;
 pub mod entry;
 mod outbox;
+mod peers;
 pub mod percent;
 pub mod server;
 mod sight;

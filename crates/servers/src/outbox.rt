@@ -7,9 +7,8 @@ ghost use Rattle.servers.specs.Lefts.{OthersOnly};
 
 use crate::counts::Counts;
 use crate::entry::Entry;
-use crate::site_count::SiteCount;
+use crate::peers::Peers;
 use fixed_vec::FixedVec;
-use stamps::site::Site;
 
 // No site has more than this many entries to take.
 pub const MOST_ENTRIES: usize = 16;
@@ -18,11 +17,10 @@ pub const MOST_ENTRIES: usize = 16;
 // an entry that all of them have taken is gone.
 #[derive(Clone, Copy)]
 pub(crate) struct Outbox {
-    own: Site,
-    sites: SiteCount,
+    peers: Peers,
     entries: FixedVec<Entry, MOST_ENTRIES>,
     left: Counts,
-    ghost others: { OthersOnly own.number sites.number (counts left) },
+    ghost others: { OthersOnly peers.own.number peers.sites.number (counts left) },
     ghost needed: { greatest (counts left) ≡ length (items entries) },
 }
 

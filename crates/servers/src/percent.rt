@@ -7,3 +7,5 @@ pub struct Percent {
     pub(crate) hundredths: u32,
     ghost within: { hundredths ≤ 10000 },
 }
+
+mod methods;

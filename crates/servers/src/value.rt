@@ -40,7 +40,7 @@ impl Value {
         match (kind, amount) {
             (0, 0) => Ok(Value::Gone),
             (1, cents) => Ok(Value::Price(cents)),
-            (2, hundredths) if hundredths <= 10_000 => Ok(Value::Percent(Percent { hundredths })),
+            (2, hundredths) => Ok(Value::Percent(Percent::try_from(hundredths)?)),
             (3, 0) => Ok(Value::Basis(Basis::Part)),
             (3, 1) => Ok(Value::Basis(Basis::Sheet)),
             _ => Err(Refusal::Unlawful),

@@ -1,5 +1,5 @@
 // The methods of `FixedVec`.
-ghost use Rattle.std.specs.Prelude.{◌≡◌, ◌-◌, ◌<◌, ◌≤◌, [], ◌∷◌, ◌++◌, length, drop, slice_set, filter};
+ghost use Rattle.std.specs.Prelude.{◌≡◌, ◌-◌, ◌<◌, ◌≤◌, [], ◌∷◌, ◌++◌, length, drop, slice_set, filter, nat_le};
 ghost use Rattle.fixed_vec.specs.Items.{items, pushed};
 
 use super::{FixedVec, Full, Keeps};
@@ -27,11 +27,18 @@ impl<T: Copy, const N: usize> FixedVec<T, N> {
         &self.cells[..self.len]
     }
 
+    // Whether there is no room for another item.
+    pub fn is_full(&self) -> bool
+        ensures { result ≡ nat_le N (length (items self.now)) }
+    {
+        self.len >= N
+    }
+
     // One item more at the end, if there is room.
     pub fn push(&mut self, item: T) -> Result<(), Full>
         ensures { (result, items self.new) ≡ pushed N (items self.old) item }
     {
-        if self.len >= N {
+        if self.is_full() {
             return Err(Full);
         }
         self.append(item);

@@ -4,7 +4,7 @@ ghost use Rattle.stamps.specs.Rows.{at, same, greatest, with_entry};
 ghost use Rattle.servers.specs.Counting.{counts, one_more};
 
 use super::Counts;
-use crate::site_count::SiteCount;
+use crate::peers::Peers;
 use stamps::site::Site;
 
 impl Counts {
@@ -28,17 +28,17 @@ impl Counts {
     }
 
     // One more for each other site of a layout.
-    pub(crate) fn one_more(&self, own: Site, sites: SiteCount) -> Counts
+    pub(crate) fn one_more(&self, peers: Peers) -> Counts
         requires { greatest (counts self.now) < 255 }
-        ensures { counts result ≡ one_more own.number sites.number (counts self.now) }
+        ensures { counts result ≡ one_more peers.own.number peers.sites.number (counts self.now) }
     {
         let [a, b, c, d] = self.numbers;
         Counts {
             numbers: [
-                a + u8::from(sites.has_other(own, 0)),
-                b + u8::from(sites.has_other(own, 1)),
-                c + u8::from(sites.has_other(own, 2)),
-                d + u8::from(sites.has_other(own, 3)),
+                a + u8::from(peers.has_other(0)),
+                b + u8::from(peers.has_other(1)),
+                c + u8::from(peers.has_other(2)),
+                d + u8::from(peers.has_other(3)),
             ],
         }
     }

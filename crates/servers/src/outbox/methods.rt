@@ -5,24 +5,22 @@ ghost use Rattle.servers.specs.Entries.{sent};
 ghost use Rattle.servers.specs.Laws.{QueueLaw};
 ghost use Rattle.servers.specs.Outboxes.{waiting, none_waiting, outbox_full, issued, next_for, taken_by, issued_if_room};
 
-use super::{MOST_ENTRIES, Outbox};
+use super::Outbox;
 use crate::counts::Counts;
 use crate::entry::Entry;
-use crate::site_count::SiteCount;
+use crate::peers::Peers;
 use fixed_vec::FixedVec;
 use stamps::site::Site;
 use stamps::stamp::Stamp;
 
 impl Outbox {
-    pub(crate) fn new(own: Site, sites: SiteCount) -> Outbox
+    pub(crate) fn new(peers: Peers) -> Outbox
         ensures empty { waiting result ≡ none_waiting }
-        ensures law { QueueLaw own.number sites.number }
-        ensures own { result.own.number ≡ own.number }
-        ensures sites { result.sites.number ≡ sites.number }
+        ensures law { QueueLaw peers.own.number peers.sites.number }
+        ensures peers { result.peers ≡ peers }
     {
         Outbox {
-            own,
-            sites,
+            peers,
             entries: FixedVec::new(Entry::Heartbeat(Stamp::zero())),
             left: Counts::zero(),
         }
@@ -30,28 +28,27 @@ impl Outbox {
 
     // The site whose outbox it is.
     pub(crate) fn own(&self) -> Site
-        ensures { result.number ≡ self.now.own.number }
+        ensures { result.number ≡ self.now.peers.own.number }
     {
-        self.own
+        self.peers.own
     }
 
     // Whether some other site has as many entries still to take as are kept for it.
     pub(crate) fn is_full(&self) -> bool
-        ensures { result ≡ outbox_full self.now.own.number self.now.sites.number (waiting self.now) }
+        ensures { result ≡ outbox_full self.now.peers.own.number self.now.peers.sites.number (waiting self.now) }
     {
-        self.entries.len() >= MOST_ENTRIES
+        self.entries.is_full()
     }
 
     // One entry more for every other site; a full outbox stays as it is.
     pub(crate) fn issue(&mut self, entry: Entry)
-        ensures queues { waiting self.new ≡ issued_if_room self.old.own.number self.old.sites.number (waiting self.old) (sent entry) }
-        ensures own { self.new.own.number ≡ self.old.own.number }
-        ensures sites { self.new.sites.number ≡ self.old.sites.number }
+        ensures queues { waiting self.new ≡ issued_if_room self.old.peers.own.number self.old.peers.sites.number (waiting self.old) (sent entry) }
+        ensures peers { self.new.peers ≡ self.old.peers }
     {
         if self.is_full() {
             return;
         }
-        self.left = self.left.one_more(self.own, self.sites);
+        self.left = self.left.one_more(self.peers);
         let _ = self.entries.push(entry);
     }
 
@@ -70,8 +67,7 @@ impl Outbox {
     // A site takes its next entry, if there is one. What no site has still to take any more is gone.
     pub(crate) fn take(&mut self, site: Site)
         ensures queues { waiting self.new ≡ taken_by (waiting self.old) site.number }
-        ensures own { self.new.own.number ≡ self.old.own.number }
-        ensures sites { self.new.sites.number ≡ self.old.sites.number }
+        ensures peers { self.new.peers ≡ self.old.peers }
     {
         let left = self.left.one_less(site);
         self.entries.keep_last(left.greatest() as usize);

@@ -6,6 +6,7 @@ ghost use Rattle.servers.specs.Servers.{view, fresh, first_received, first_entry
 
 use super::Server;
 use crate::outbox::Outbox;
+use crate::peers::Peers;
 use crate::site_count::SiteCount;
 use crate::table::VersionTable;
 use crate::value::Value;
@@ -40,7 +41,7 @@ impl<C: ClockRule, K: MarkKind> Server<C, K> {
             reported: zero,
             stable: zero,
             table: VersionTable::new(filler),
-            outbox: Outbox::new(site, sites),
+            outbox: Outbox::new(Peers { own: site, sites }),
             rule: PhantomData,
             kind: PhantomData,
         }

@@ -1,11 +1,9 @@
 // How a count of sites is made and read.
 ghost use Rattle.std.specs.Prelude.{◌≡◌};
-ghost use Rattle.servers.specs.Others.{is_other};
 ghost use Rattle.servers.specs.SiteCounts.{count_of, checked_count};
 
 use super::SiteCount;
 use stamps::refusal::Refusal;
-use stamps::site::Site;
 
 // The count of a plain number; refused unless it is 2 to 4.
 impl TryFrom<u8> for SiteCount {
@@ -26,12 +24,5 @@ impl SiteCount {
         ensures { result ≡ self.number }
     {
         self.number
-    }
-
-    // Whether a number is that of another site than the given one.
-    pub(crate) fn has_other(self, own: Site, site: u8) -> bool
-        ensures { result ≡ is_other own.number self.number site }
-    {
-        site < self.number && site != own.number()
     }
 }

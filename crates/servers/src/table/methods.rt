@@ -23,7 +23,7 @@ impl VersionTable {
     pub(crate) fn is_full(&self) -> bool
         ensures { result ≡ table_full (held self.now) }
     {
-        self.versions.len() >= super::MOST_VERSIONS
+        self.versions.is_full()
     }
 
     // One version more, at the end; a full table stays as it is.

@@ -10,4 +10,4 @@ pub returns : goal.returns
 returns c =
     let o = c.args.self.now in
     let long = sym (length-map (items o.entries) sent) in
-    ap (leb 16) (c.len.ensures ∙ long) ∙ full_is o.own.number o.sites.number (map sent (items o.entries)) (counts o.left) o.others (o.needed ∙ long)
+    c.is_full.ensures ∙ ap (leb 16) long ∙ full_is o.peers.own.number o.peers.sites.number (map sent (items o.entries)) (counts o.left) o.others (o.needed ∙ long)

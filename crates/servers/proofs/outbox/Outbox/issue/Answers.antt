@@ -16,12 +16,12 @@ use Rattle.servers.proofs.outbox.Outbox.issue.Goals as goal
 
 -- there is room, so the entry stands at the end
 appended : (o : Outbox) (entry : Entry) (r : Result (Unit {0}) Full) (after : FixedVec Entry 16)
-    → false ≡ outbox_full o.own.number o.sites.number (waiting o) → (r, items after) ≡ pushed 16 (items o.entries) entry
+    → false ≡ outbox_full o.peers.own.number o.peers.sites.number (waiting o) → (r, items after) ≡ pushed 16 (items o.entries) entry
     → items after ≡ items o.entries ++ entry ∷ []
 appended o entry r after room push =
     let es = items o.entries in
     let long = length-map es sent in
-    let full = full_is o.own.number o.sites.number (map sent es) (counts o.left) o.others (o.needed ∙ sym long) in
+    let full = full_is o.peers.own.number o.peers.sites.number (map sent es) (counts o.left) o.others (o.needed ∙ sym long) in
     let less = leb-false 16 (length (map sent es)) (full ∙ sym room) in
     ap (λ (p : Result (Unit {0}) Full × List Entry). p.1) (push ∙ cond-true (ltb (length es) 16) (Ok tt, es ++ entry ∷ []) (Err (record {}), es) (lt-ltb (length es) 16 (omega arith)))
 
@@ -29,11 +29,11 @@ pub invariant_of-self : goal.invariant_of-self
 invariant_of-self c =
     let o = c.args.self.now in
     let n = length (items o.entries) in
-    let after = issue_counts o.own.number o.sites.number (counts o.left) n (omega arith) o.others o.needed in
+    let after = issue_counts o.peers.own.number o.peers.sites.number (counts o.left) n (omega arith) o.others o.needed in
     let items_are = appended o c.args.entry c.push.result c.push.new.self c.if-is_full.ensures c.push.ensures in
     let long = ap length items_are ∙ length-append (items o.entries) (c.args.entry ∷ []) in
     record {
-      others = subst (OthersOnly o.own.number o.sites.number) (sym c.one_more-self.ensures) after.0;
+      others = subst (OthersOnly o.peers.own.number o.peers.sites.number) (sym c.one_more-self.ensures) after.0;
       needed = ap greatest c.one_more-self.ensures ∙ after.1 ∙ sym long;
     }
 
@@ -42,8 +42,8 @@ returns c =
     let o = c.args.self.now in
     let es = items o.entries in
     let items_are = appended o c.args.entry c.push.result c.push.new.self c.if-is_full.ensures c.push.ensures in
-    let own = o.own.number in
-    let sites = o.sites.number in
+    let own = o.peers.own.number in
+    let sites = o.peers.sites.number in
     let left = counts o.left in
     let e = sent c.args.entry in
     record {
@@ -53,6 +53,5 @@ returns c =
           ∙ ap (last_for (map sent es ++ e ∷ [])) c.one_more-self.ensures
           ∙ issue_queues own sites (map sent es) e left (omega arith) o.others (o.needed ∙ sym (length-map es sent))
           ∙ sym (cond-false (outbox_full own sites (waiting o)) (waiting o) (issued own sites (waiting o) e) (sym c.if-is_full.ensures));
-      own = refl;
-      sites = refl;
+      peers = refl;
     }
