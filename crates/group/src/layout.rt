@@ -10,7 +10,8 @@ pub struct Draft {
     pub partitions: u8,
 }
 
-// Two counts that the check has passed. Only `Draft::check` makes one.
+// Two counts that the check has passed. Only `Draft::check` makes one. The count of partitions stands nowhere else, and has
+// no type of its own.
 #[derive(Clone, Copy)]
 pub struct Layout {
     sites: SiteCount,

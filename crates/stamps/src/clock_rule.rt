@@ -13,6 +13,7 @@ pub trait ClockRule {
     // What the rule answers to a last stamp, a reading and a dependency stamp.
     ghost answer: { ℕ → ℕ → ℕ → Result ℕ Refusal };
 
+    // The three are all that a rule is asked. No struct has them: nothing keeps them together before or after.
     fn stamp(last: Stamp, reading: Reading, dependency: Stamp) -> Result<Stamp, Refusal>
         ensures { stamp_number result ≡ answer last.value reading.time dependency.value };
 

@@ -29,6 +29,7 @@ impl<C: ClockRule, K: MarkKind> Group<C, K> {
         let d = Server::new(site_of(3), sites);
         Group {
             layout,
+            // Written out: a function of the index would have to be told which indices there are.
             servers: [a, a, a, a, b, b, b, b, c, c, c, c, d, d, d, d],
             sessions: FixedVec::new(Session::new(site_of(0))),
             seats: Seats::new(),
