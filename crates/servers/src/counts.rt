@@ -1,4 +1,4 @@
-// A count for each site number. No generic type with `Row`, since what an entry is, a count or a stamp, is in its invariant.
+// A count for each site number. No generic type with `Row`, whose entries are stamps by its invariant.
 ghost use Rattle.std.specs.Prelude.{◌≡◌, length};
 
 #[derive(Clone, Copy)]

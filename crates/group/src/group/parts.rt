@@ -28,7 +28,7 @@ use stamps::refusal::Refusal;
 use stamps::site::Site;
 use stamps::stamp::Stamp;
 
-// A method for each call of a server of the array: a function that lends one of them gets no proof.
+// Calls that change a server go by a method each: a function that lends one of the array to be changed gets no proof.
 impl<C: ClockRule, K: MarkKind> Group<C, K> {
     pub(crate) fn server(&self, place: Place) -> &Server<C, K>
         ensures { server_view result.now ≡ server_at (view self.now) place }
@@ -85,7 +85,8 @@ impl<C: ClockRule, K: MarkKind> Group<C, K> {
         (number as usize) < self.sessions.len()
     }
 
-    // The session of a number; one at site 0 as it is opened if there is none, as in the model.
+    // The session of a number; one at site 0 as it is opened if there is none, as in the model. `learn` and `depend` ask for
+    // one that is known to be there.
     pub(crate) fn session_at(&self, number: u8) -> Session
         ensures { session_state result ≡ session_at (view self.now) number }
     {

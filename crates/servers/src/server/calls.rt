@@ -1,15 +1,13 @@
 // A server's part of the calls that tell its clock, write, and send and take entries.
-ghost use Rattle.std.specs.Prelude.{◌≡◌, false, ◌==◌};
+ghost use Rattle.std.specs.Prelude.{◌≡◌, ◌==◌};
 ghost use Rattle.stamps.specs.Checks.{stamp_number};
 ghost use Rattle.stamps.specs.Refusals.{RefusalKeeps};
-ghost use Rattle.stamps.specs.Rows.{greatest};
 ghost use Rattle.std.specs.Option.{option_map};
 ghost use Rattle.servers.specs.Entries.{sent};
 ghost use Rattle.servers.specs.Laws.{Above};
-ghost use Rattle.servers.specs.Outboxes.{next_for, outbox_full};
-ghost use Rattle.servers.specs.Tables.{table_full};
+ghost use Rattle.servers.specs.Outboxes.{next_for};
 ghost use Rattle.servers.specs.Values.{worth};
-ghost use Rattle.servers.specs.Servers.{view, last_of, told, beaten, putting, putting_at, handing, taking, taking_other, lead_of};
+ghost use Rattle.servers.specs.Servers.{view, last_of, told, beaten, putting, handing, taking, taking_other, lead_of};
 
 use super::Server;
 use crate::entry::Entry;
