@@ -24,8 +24,10 @@ pub record ServerFrame (sites s : ℕ) (x : ServerState) : Type 0 where
   pub reading : x.reading < 2 ^ 47
 
 pub record Frame (g : GroupState) : Type 0 where
+  pub two : 2 ≤ g.sites
   pub four : g.sites ≤ 4
   pub some : 1 ≤ g.partitions
+  pub few : g.partitions ≤ 4
   pub servers : (s n : ℕ) → ServerFrame g.sites s (g.server s n)
   pub sessions : length g.sessions ≤ 8
   pub seats : length g.seats ≡ 4
@@ -98,7 +100,7 @@ module _ {k : Kind} {sites : ℕ} {h : History} {g : GroupState} {G : Ghost} (v 
   servers_kept server frames core = record {
     ghost = G;
     inv = record {
-      frame = record { four = v.frame.four; some = v.frame.some; servers = frames; sessions = v.frame.sessions; seats = v.frame.seats; serials = v.frame.serials };
+      frame = record { two = v.frame.two; four = v.frame.four; some = v.frame.some; few = v.frame.few; servers = frames; sessions = v.frame.sessions; seats = v.frame.seats; serials = v.frame.serials };
       layout = v.layout;
       core = core;
       hist = record { sites_known = v.hist.sites_known; readers_known = v.hist.readers_known; open_known = v.hist.open_known };

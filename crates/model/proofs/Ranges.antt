@@ -1,6 +1,6 @@
 -- The capacities and ranges, from the invariant.
-use Rattle.std.proofs.Common.{ℕ, ◌&&◌, eqb, leb, [], ◌∷◌, Ok, Err, Result, sym, subst, inl, inr}
-use Rattle.std.proofs.lemmas.Bool.{and_parts, cond_both, leb-true}
+use Rattle.std.proofs.Common.{ℕ, ◌^◌, ◌&&◌, eqb, leb, ltb, [], ◌∷◌, Ok, Err, Result, sym, subst, inl, inr}
+use Rattle.std.proofs.lemmas.Bool.{and_parts, cond_both, leb-true, ltb-true}
 use Rattle.stamps.specs.declared.refusal.Refusal.{Refusal}
 use Rattle.stamps.specs.declared.refusal.Refusal.TheVariants.{Unlawful}
 use Rattle.stamps.specs.Rows.{Stamps}
@@ -21,7 +21,7 @@ MadeInRange (Err why) = Unit {0}
 made_in_range : (kind amount : ℕ) → MadeInRange (worth_from kind amount)
 made_in_range kind amount =
     cond_both {A = Result Worth Refusal} (eqb kind 0 && eqb amount 0) (Ok gone) _ MadeInRange (λ _. tt)
-    (λ _. cond_both {A = Result Worth Refusal} (eqb kind 1) (Ok (price amount)) _ MadeInRange (λ _. tt)
+    (λ _. cond_both {A = Result Worth Refusal} (eqb kind 1 && ltb amount (2 ^ 32)) (Ok (price amount)) _ MadeInRange (λ e. ltb-true amount (2 ^ 32) (and_parts (eqb kind 1) (ltb amount (2 ^ 32)) e).1)
     (λ _. cond_both {A = Result Worth Refusal} (eqb kind 2 && leb amount 10000) (Ok (percent amount)) _ MadeInRange (λ e. leb-true amount 10000 (and_parts (eqb kind 2) (leb amount 10000) e).1)
     (λ _. cond_both {A = Result Worth Refusal} (eqb kind 3 && eqb amount 0) (Ok part) _ MadeInRange (λ _. tt)
     (λ _. cond_both {A = Result Worth Refusal} (eqb kind 3 && eqb amount 1) (Ok sheet) (Err Unlawful) MadeInRange (λ _. tt) (λ _. tt)))))
@@ -40,6 +40,8 @@ put_in_range (nothing ∷ h) p x w = put_in_range h p x w
 
 pub bounded : {k : Kind} {sites : ℕ} {h : History} {g : GroupState} {G : Ghost} → Inv k sites h g G → GroupBounded g
 bounded {k} {sites} {h} {g} {G} v = record {
+  sites = (v.frame.two, v.frame.four);
+  partitions = (v.frame.some, v.frame.few);
   servers = λ s n ls ln. let f = v.frame.servers s n in record {
     few_versions = f.versions;
     few_entries = f.entries;

@@ -53,11 +53,13 @@ first_stamps sites = (one 0, one 1, one 2, one 3)
 free_seats : (a : ℕ) → get_or {A = Option SeatState} (None ∷ None ∷ None ∷ None ∷ []) a None ≡ None
 free_seats = by_site (λ a. get_or {A = Option SeatState} (None ∷ None ∷ None ∷ None ∷ []) a None ≡ None) refl refl refl refl (λ m. refl)
 
-pub begins : {k : Kind} → LawfulKind k → (sites partitions : ℕ) → sites ≤ 4 → 1 ≤ partitions → Inv k sites [] (made sites partitions) no_ghost
-begins {k} law sites partitions four some = record {
+pub begins : {k : Kind} → LawfulKind k → (sites partitions : ℕ) → 2 ≤ sites → sites ≤ 4 → 1 ≤ partitions → partitions ≤ 4 → Inv k sites [] (made sites partitions) no_ghost
+begins {k} law sites partitions two four some few = record {
   frame = record {
+    two = two;
     four = four;
     some = some;
+    few = few;
     servers = λ s n. record { site_is = refl; sites_is = refl; versions = lit≤ tt; entries = λ site. lit≤ tt; reading = lit< tt };
     sessions = lit≤ tt;
     seats = refl;

@@ -95,7 +95,7 @@ module _ {k : Kind} (law : LawfulKind k) {sites : ℕ} {h : History} {g : GroupS
       opened inside few = record {
         ghost = G;
         inv = record {
-          frame = record { four = v.frame.four; some = v.frame.some; servers = v.frame.servers; sessions = omega (arith, length-append g.sessions (new_session site ∷ [])); seats = v.frame.seats; serials = v.frame.serials };
+          frame = record { two = v.frame.two; four = v.frame.four; some = v.frame.some; few = v.frame.few; servers = v.frame.servers; sessions = omega (arith, length-append g.sessions (new_session site ∷ [])); seats = v.frame.seats; serials = v.frame.serials };
           layout = v.layout;
           core = enrol_session law g v.frame.four v.frame.some v.core site inside;
           hist = record { sites_known = known; readers_known = v.hist.readers_known; open_known = v.hist.open_known };
@@ -262,8 +262,10 @@ module _ {k : Kind} (law : LawfulKind k) {sites : ℕ} {h : History} {g : GroupS
         ghost = G';
         inv = record {
           frame = record {
+            two = v.frame.two;
             four = v.frame.four;
             some = v.frame.some;
+            few = v.frame.few;
             servers = server_frames law v s n (server' t) (let f = v.frame.servers s n in record {
               site_is = f.site_is;
               sites_is = f.sites_is;
@@ -355,8 +357,10 @@ module _ {k : Kind} (law : LawfulKind k) {sites : ℕ} {h : History} {g : GroupS
 
     pub learn_frame : Frame (learning k g i (session_at g i) n)
     learn_frame = record {
+      two = v.frame.two;
       four = v.frame.four;
       some = v.frame.some;
+      few = v.frame.few;
       servers = server_frames law v (session_at g i).site n heard (let f = v.frame.servers (session_at g i).site n in record { site_is = f.site_is; sites_is = f.sites_is; versions = f.versions; entries = f.entries; reading = f.reading });
       sessions = subst (λ (z : ℕ). z ≤ 8) (sym (length-set g.sessions i known)) v.frame.sessions;
       seats = v.frame.seats;
@@ -400,8 +404,10 @@ module _ {k : Kind} (law : LawfulKind k) {sites : ℕ} {h : History} {g : GroupS
         ghost = G;
         inv = record {
           frame = record {
+            two = v.frame.two;
             four = v.frame.four;
             some = v.frame.some;
+            few = v.frame.few;
             servers = (learn_frame i (partition_of g key) l).servers;
             sessions = (learn_frame i (partition_of g key) l).sessions;
             seats = v.frame.seats;
@@ -420,8 +426,10 @@ module _ {k : Kind} (law : LawfulKind k) {sites : ℕ} {h : History} {g : GroupS
         ghost = G;
         inv = record {
           frame = record {
+            two = v.frame.two;
             four = v.frame.four;
             some = v.frame.some;
+            few = v.frame.few;
             servers = (learn_frame i (partition_of g key) l).servers;
             sessions = subst (λ (z : ℕ). z ≤ 8) (sym (length-set g1.sessions i x2)) (learn_frame i (partition_of g key) l).sessions;
             seats = v.frame.seats;

@@ -78,7 +78,7 @@ module _ {k : Kind} (law : LawfulKind k) {sites : ℕ} {h : History} {g : GroupS
           record {
             ghost = G;
             inv = record {
-              frame = record { four = v.frame.four; some = v.frame.some; servers = v.frame.servers; sessions = v.frame.sessions; seats = length-set g.seats t.seat None ∙ v.frame.seats; serials = v.frame.serials };
+              frame = record { two = v.frame.two; four = v.frame.four; some = v.frame.some; few = v.frame.few; servers = v.frame.servers; sessions = v.frame.sessions; seats = length-set g.seats t.seat None ∙ v.frame.seats; serials = v.frame.serials };
               layout = v.layout;
               core = close_seat law g v.frame.four v.frame.some v.core t.seat la;
               hist = record {
@@ -145,8 +145,10 @@ module _ {k : Kind} (law : LawfulKind k) {sites : ℕ} {h : History} {g : GroupS
         ghost = G';
         inv = record {
           frame = record {
+            two = v.frame.two;
             four = v.frame.four;
             some = v.frame.some;
+            few = v.frame.few;
             servers = (learn_frame law v i n li).servers;
             sessions = (learn_frame law v i n li).sessions;
             seats = length-set g.seats (lowest_free g.seats) (Some y) ∙ v.frame.seats;
@@ -281,7 +283,7 @@ module _ {k : Kind} (law : LawfulKind k) {sites : ℕ} {h : History} {g : GroupS
     read_kept t at_a same None best = record {
       ghost = G;
       inv = record {
-        frame = record { four = v.frame.four; some = v.frame.some; servers = frames; sessions = v.frame.sessions; seats = v.frame.seats; serials = v.frame.serials };
+        frame = record { two = v.frame.two; four = v.frame.four; some = v.frame.some; few = v.frame.few; servers = frames; sessions = v.frame.sessions; seats = v.frame.seats; serials = v.frame.serials };
         layout = v.layout;
         core = core1;
         hist = record { sites_known = v.hist.sites_known; readers_known = v.hist.readers_known; open_known = v.hist.open_known };
@@ -295,8 +297,10 @@ module _ {k : Kind} (law : LawfulKind k) {sites : ℕ} {h : History} {g : GroupS
       ghost = G;
       inv = record {
         frame = record {
+          two = v.frame.two;
           four = v.frame.four;
           some = v.frame.some;
+          few = v.frame.few;
           servers = frames;
           sessions = subst (λ (z : ℕ). z ≤ 8) (sym (length-set g.sessions y.session x2)) v.frame.sessions;
           seats = v.frame.seats;

@@ -43,7 +43,7 @@ promises {k} law rule clock sites r G v = record {
     inside : {s : ℕ} → s < sites → s < r.state.sites
     inside {s} l = subst (λ (z : ℕ). s < z) (sym v.layout) l
 
-pub keeps_promises : {k : Kind} → LawfulKind k → (rule : Rule) → LawfulRule rule → (sites partitions : ℕ) → sites ≤ 4 → 1 ≤ partitions → GroupKeepsPromises rule k sites partitions
-keeps_promises law rule clock sites partitions four some calls =
-    let end = ran law rule clock sites (record { events = []; state = made sites partitions }) no_ghost (begins law sites partitions four some) calls in
+pub keeps_promises : {k : Kind} → LawfulKind k → (rule : Rule) → LawfulRule rule → (sites partitions : ℕ) → 2 ≤ sites → sites ≤ 4 → 1 ≤ partitions → partitions ≤ 4 → GroupKeepsPromises rule k sites partitions
+keeps_promises law rule clock sites partitions two four some few calls =
+    let end = ran law rule clock sites (record { events = []; state = made sites partitions }) no_ghost (begins law sites partitions two four some few) calls in
     promises law rule clock sites _ end.ghost end.inv

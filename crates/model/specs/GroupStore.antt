@@ -27,10 +27,10 @@ AllTaken g = (from to partition : ℕ) → from < g.sites → to < g.sites → p
 abbrev pub may_see : Kind → GroupState → ℕ → VersionState → Bool
 may_see k g i v = sees k (hearing k g (session_at g i) (partition_of g v.key)) v
 
--- a percentage is at most 10,000 hundredths; a price is whatever amount was put
+-- a price is an amount of 32 bits, a percentage at most 10,000 hundredths
 abbrev pub InRange : Worth → Type 0
 InRange gone = Unit {0}
-InRange (price cents) = Unit {0}
+InRange (price cents) = cents < 2 ^ 32
 InRange (percent hundredths) = hundredths ≤ 10000
 InRange part = Unit {0}
 InRange sheet = Unit {0}
@@ -61,8 +61,11 @@ pub record SeatBounded (sessions next : ℕ) (y : SeatState) : Type 0 where
   pub serial : y.serial < next
   pub cut : Stamps y.cut
 
--- a group has at most 8 sessions, 4 seats, and serial numbers below 2^32
+-- A group has 2 to 4 sites, 1 to 4 partitions, at most 8 sessions, and 4 seats. A serial number that was given is below the
+-- next one, so below 2^32 - 1.
 pub record GroupBounded (g : GroupState) : Type 0 where
+  pub sites : (2 ≤ g.sites) × (g.sites ≤ 4)
+  pub partitions : (1 ≤ g.partitions) × (g.partitions ≤ 4)
   pub servers : (site partition : ℕ) → site < g.sites → partition < g.partitions → ServerBounded g.sites (g.server site partition)
   pub few_sessions : length g.sessions ≤ 8
   pub sessions : (i : ℕ) → i < length g.sessions → SessionBounded g.sites (session_at g i)

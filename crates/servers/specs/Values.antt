@@ -1,5 +1,5 @@
 -- Values: the kind and the amount of each case.
-use Rattle.std.specs.Prelude.{ℕ, cond, ◌&&◌, Ok, Err, Result, ◌==◌, nat_le}
+use Rattle.std.specs.Prelude.{ℕ, ◌^◌, cond, ◌&&◌, Ok, Err, Result, ◌==◌, nat_le, nat_lt}
 use Rattle.stamps.specs.declared.refusal.Refusal.{Refusal}
 use Rattle.stamps.specs.declared.refusal.Refusal.TheVariants.{Unlawful}
 use Rattle.servers.specs.declared.value.Value.{Value}
@@ -46,7 +46,7 @@ amount_of sheet = 1
 abbrev pub worth_from : ℕ → ℕ → Result Worth Refusal
 worth_from kind amount =
     cond (kind == 0 && amount == 0) (Ok gone)
-    (cond (kind == 1) (Ok (price amount))
+    (cond (kind == 1 && nat_lt amount (2 ^ 32)) (Ok (price amount))
     (cond (kind == 2 && nat_le amount 10000) (Ok (percent amount))
     (cond (kind == 3 && amount == 0) (Ok part)
     (cond (kind == 3 && amount == 1) (Ok sheet) (Err Unlawful)))))
