@@ -2,7 +2,7 @@
 use Rattle.std.proofs.Common.{◌≡◌, ℕ, ◌+◌, ◌<◌, List, [], ◌∷◌, ◌++◌, length, get_or, take, sym, ap, ◌∙◌, arith, lit<}
 use Rattle.std.proofs.lemmas.List.{take_more}
 use Rattle.stamps.specs.Rows.{Four, Stamps, four, same, meet, Covers}
-use Rattle.stamps.specs.Stamps.{last_stamp}
+use Rattle.stamps.specs.Stamps.{top_stamp}
 use Rattle.marks.specs.Kinds.{Kind, LawfulKind}
 use Rattle.marks.specs.CommonFloors.{common_floor, AllCover, GreatestCommon, numbers}
 use Rattle.stamps.specs.declared.row.Row.{Row}
@@ -10,7 +10,7 @@ use Rattle.stamps.proofs.Rows.{covers_trans, meet_left, meet_right, meet_greates
 
 -- one row more at the end
 common_floor_push : (k : Kind) (rs : List Row) (r : Row) → common_floor k (numbers (rs ++ r ∷ [])) ≡ meet (common_floor k (numbers rs)) (k.floor (four r.entries))
-common_floor_push k [] r = meet_comm (k.floor (four r.entries)) (same last_stamp)
+common_floor_push k [] r = meet_comm (k.floor (four r.entries)) (same top_stamp)
 common_floor_push k (s ∷ rs) r =
     ap (meet (k.floor (four s.entries))) (common_floor_push k rs r)
     ∙ sym (meet_assoc (k.floor (four s.entries)) (common_floor k (numbers rs)) (k.floor (four r.entries)))
@@ -35,7 +35,7 @@ common_floor_stamps k l (r ∷ rs) =
 
 pub common_floor_greatest : (k : Kind) → LawfulKind k → (rs : List Row) → GreatestCommon k (numbers rs) (common_floor k (numbers rs))
 common_floor_greatest k l [] =
-    record { means = l.same_means last_stamp (lit< tt); covered = tt; greatest = λ other s _ _. (omega arith, omega arith, omega arith, omega arith) }
+    record { means = l.same_means top_stamp (lit< tt); covered = tt; greatest = λ other s _ _. (omega arith, omega arith, omega arith, omega arith) }
 common_floor_greatest k l (r ∷ rs) =
     let x = four r.entries in
     let rest = common_floor_greatest k l rs in

@@ -1,7 +1,7 @@
 -- The common floor of a run of rows.
 use Rattle.std.specs.Prelude.{List, [], ◌∷◌}
 use Rattle.stamps.specs.Rows.{Four, Stamps, four, same, meet, Covers}
-use Rattle.stamps.specs.Stamps.{last_stamp}
+use Rattle.stamps.specs.Stamps.{top_stamp}
 use Rattle.marks.specs.Kinds.{Kind}
 use Rattle.stamps.specs.declared.row.Row.{Row}
 
@@ -12,7 +12,7 @@ numbers (r ∷ rs) = four r.entries ∷ numbers rs
 
 -- the meet of all rows, each taken as a mark
 abbrev pub common_floor : Kind → List Four → Four
-common_floor k [] = same last_stamp
+common_floor k [] = same top_stamp
 common_floor k (x ∷ xs) = meet (k.floor x) (common_floor k xs)
 
 -- every row of the run covers the mark

@@ -1,10 +1,9 @@
 -- The worked edges of both clock rules and of floor, as one table that the checker computes.
-use Rattle.std.specs.Prelude.{ℕ, Bool, true, false, ◌&&◌, List, [], ◌∷◌, ◌++◌, ℤ, pos, Ok, Err, Result, ◌==◌}
+use Rattle.std.specs.Prelude.{◌≡◌, ℕ, List, [], ◌∷◌, ◌++◌, ℤ, pos, Ok, Err, Result}
 use Rattle.stamps.specs.declared.refusal.Refusal.{Refusal}
 use Rattle.stamps.specs.declared.refusal.Refusal.TheVariants.{Early}
-use Rattle.stamps.specs.Refusals.{number_of}
 use Rattle.stamps.specs.Stamps.{stamp_of}
-use Rattle.stamps.specs.Rows.{Four, same, covers}
+use Rattle.stamps.specs.Rows.{Four, same}
 use Rattle.stamps.specs.Clocks.{raw, hybrid}
 use Rattle.stamps.specs.Outside.{signed_number}
 use Rattle.marks.specs.BuiltKinds.{one_kind, each_kind}
@@ -30,19 +29,13 @@ edges =
     ∷ floored each_kind.floor row5394 row5394
     ∷ []
 
-abbrev pub same_answer : Result ℕ Refusal → Result ℕ Refusal → Bool
-same_answer (Ok s) (Ok t) = s == t
-same_answer (Ok s) (Err why) = false
-same_answer (Err why) (Ok t) = false
-same_answer (Err why) (Err other) = number_of why == number_of other
+abbrev pub Holds : Edge → Type 0
+Holds (stamped rule last reading dependency answer) = rule last reading dependency ≡ answer
+Holds (floored floor row answer) = floor row ≡ answer
 
-abbrev pub holds : Edge → Bool
-holds (stamped rule last reading dependency answer) = same_answer (rule last reading dependency) answer
-holds (floored floor row answer) = covers (floor row) answer && covers answer (floor row)
-
-abbrev pub all_hold : List Edge → Bool
-all_hold [] = true
-all_hold (e ∷ es) = holds e && all_hold es
+abbrev pub AllHold : List Edge → Type 0
+AllHold [] = Unit {0}
+AllHold (e ∷ es) = Holds e × AllHold es
 
 -- the numbers of an edge's answer
 abbrev pub entries_of : Four → List ℤ

@@ -1,36 +1,36 @@
 // The common floor of a run of rows, for every kind of mark.
 ghost use Rattle.std.specs.Prelude.{◌≡◌};
 ghost use Rattle.stamps.specs.Rows.{same};
-ghost use Rattle.stamps.specs.Stamps.{last_stamp};
+ghost use Rattle.stamps.specs.Stamps.{top_stamp};
 ghost use Rattle.marks.specs.CommonFloors.{common_floor, GreatestCommon, numbers};
 
 use crate::mark_kind::MarkKind;
 use stamps::row::Row;
 use stamps::stamp::Stamp;
 
-// The greatest mark that every row of the run covers; of no rows, the last stamp at each entry.
+// The greatest mark that every row of the run covers; of no rows, the top stamp at each entry.
 // Each row is taken as a mark by the kind's floor.
 pub fn common_floor<K: MarkKind>(rows: &[Row]) -> K::Mark
     ensures value { K.MarkKind.meaning result ≡ common_floor K.MarkKind.kind (numbers rows.now) }
     ensures greatest { GreatestCommon K.MarkKind.kind (numbers rows.now) (K.MarkKind.meaning result) }
 {
-    lowered::<K>(last_mark::<K>(), rows)
+    lowered::<K>(top_mark::<K>(), rows)
 }
 
-// The greatest mark: the last stamp at each entry.
-fn last_mark<K: MarkKind>() -> K::Mark
-    ensures { K.MarkKind.meaning result ≡ same last_stamp }
+// The greatest mark: the top stamp at each entry.
+fn top_mark<K: MarkKind>() -> K::Mark
+    ensures { K.MarkKind.meaning result ≡ same top_stamp }
 {
-    K::floor(Row::same(Stamp::last()))
+    K::floor(Row::same(Stamp::top()))
 }
 
 // The greatest mark, lowered by each row of the run.
-fn lowered<K: MarkKind>(last: K::Mark, rows: &[Row]) -> K::Mark
-    requires { K.MarkKind.meaning last ≡ same last_stamp }
+fn lowered<K: MarkKind>(top: K::Mark, rows: &[Row]) -> K::Mark
+    requires { K.MarkKind.meaning top ≡ same top_stamp }
     ensures value { K.MarkKind.meaning result ≡ common_floor K.MarkKind.kind (numbers rows.now) }
     ensures greatest { GreatestCommon K.MarkKind.kind (numbers rows.now) (K.MarkKind.meaning result) }
 {
-    let mut mark = last;
+    let mut mark = top;
     for row in rows {
         mark = K::meet(mark, K::floor(*row));
     }

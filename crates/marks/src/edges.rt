@@ -1,6 +1,6 @@
 // The worked edges of both clock rules and of floor, run by the code.
-ghost use Rattle.std.specs.Prelude.{◌≡◌, true, take, drop};
-ghost use Rattle.marks.specs.Edges.{edges, answers_of, all_hold, entries_of, row5394};
+ghost use Rattle.std.specs.Prelude.{◌≡◌, take, drop};
+ghost use Rattle.marks.specs.Edges.{edges, answers_of, AllHold, entries_of, row5394};
 
 use crate::each::Each;
 use crate::mark_kind::MarkKind;
@@ -28,7 +28,7 @@ pub fn worked_edges() -> EdgeAnswers
     ensures raw { result.raw ≡ answers_of (take 3 (drop 3 edges)) }
     ensures one_floor { result.one_floor ≡ answers_of (take 1 (drop 6 edges)) }
     ensures each_floor { result.each_floor ≡ answers_of (drop 7 edges) }
-    ensures table { all_hold edges ≡ true }
+    ensures table { AllHold edges }
 {
     EdgeAnswers {
         hybrid: hybrid_edges(),

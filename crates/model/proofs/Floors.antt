@@ -2,7 +2,7 @@
 use Rattle.std.proofs.Common.{◌≡◌, ℕ, suc, ◌<◌, List, [], ◌∷◌, ◌++◌, sym, refl, subst, inl, inr, ⊎_elim, arith, lit<}
 use Rattle.std.proofs.lemmas.Bool.{cases_eq}
 use Rattle.stamps.specs.Rows.{Four, Stamps, Covers}
-use Rattle.stamps.specs.Stamps.{last_stamp}
+use Rattle.stamps.specs.Stamps.{top_stamp}
 use Rattle.stamps.proofs.Rows.{meet_left, meet_right, meet_greatest}
 use Rattle.marks.specs.Kinds.{Kind, LawfulKind}
 use Rattle.servers.specs.Laws.{In}
@@ -17,7 +17,7 @@ AllStamps xs = (x : Four) → In x xs → Stamps x
 
 module _ {k : Kind} (law : LawfulKind k) where
   pub common_mark : (xs : List Four) → AllStamps xs → Mark k (common_floor k xs)
-  common_mark [] st = ((lit< tt, lit< tt, lit< tt, lit< tt), law.same_means last_stamp (lit< tt))
+  common_mark [] st = ((lit< tt, lit< tt, lit< tt, lit< tt), law.same_means top_stamp (lit< tt))
   common_mark (x ∷ xs) st = meet_mark law (floor_mark law (st x (inl refl))) (common_mark xs (λ y i. st y (inr i)))
 
   pub common_below : (xs : List Four) → AllStamps xs → (x : Four) → In x xs → Covers x (common_floor k xs)

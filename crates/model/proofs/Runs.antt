@@ -5,7 +5,7 @@ use Rattle.stamps.specs.declared.refusal.Refusal.{Refusal}
 use Rattle.stamps.specs.declared.refusal.Refusal.TheVariants.{NotInLayout}
 use Rattle.stamps.specs.Clocks.{LawfulRule}
 use Rattle.stamps.specs.Rows.{Stamps, same}
-use Rattle.stamps.specs.Stamps.{last_stamp}
+use Rattle.stamps.specs.Stamps.{top_stamp}
 use Rattle.marks.specs.Kinds.{Kind, LawfulKind}
 use Rattle.servers.specs.Servers.{Rule, first_entry, first_received, lead_of}
 use Rattle.servers.proofs.RowEntries.{by_site}
@@ -48,7 +48,7 @@ first_stamps : (sites : ℕ) → Stamps (first_received sites)
 first_stamps sites = (one 0, one 1, one 2, one 3)
   where
     one : (site : ℕ) → first_entry sites site < 2 ^ 63
-    one site = cond_both (ltb site sites) 0 last_stamp (λ x. x < 2 ^ 63) (λ _. lit< tt) (λ _. lit< tt)
+    one site = cond_both (ltb site sites) 0 top_stamp (λ x. x < 2 ^ 63) (λ _. lit< tt) (λ _. lit< tt)
 
 free_seats : (a : ℕ) → get_or {A = Option SeatState} (None ∷ None ∷ None ∷ None ∷ []) a None ≡ None
 free_seats = by_site (λ a. get_or {A = Option SeatState} (None ∷ None ∷ None ∷ None ∷ []) a None ≡ None) refl refl refl refl (λ m. refl)

@@ -1,14 +1,15 @@
 -- A server's own stamps rise.
-use Rattle.std.proofs.Common.{◌≡◌, ℕ, ◌^◌, ◌<◌, eqb, ltb, List, [], ◌∷◌, Ok, Err, Result, sym, refl, ap, ◌∙◌, subst, inl, inr, arith}
-use Rattle.std.proofs.lemmas.Bool.{cond_both, cond-true, eqb-false, lt-ltb, ltb-true}
+use Rattle.std.proofs.Common.{◌≡◌, ℕ, ◌^◌, ◌<◌, true, not, eqb, ltb, List, [], ◌∷◌, Ok, Err, Result, sym, refl, ap, ◌∙◌, subst, inl, inr, arith}
+use Rattle.std.proofs.lemmas.Bool.{and_parts, cond_both, cond-true, eqb-false, lt-ltb, ltb-true, not-true}
 use Rattle.stamps.specs.declared.refusal.Refusal.{Refusal}
 use Rattle.stamps.specs.declared.refusal.Refusal.TheVariants.{Unlawful}
 use Rattle.stamps.specs.Clocks.{Allowed, LawfulRule}
 use Rattle.stamps.specs.Rows.{Four, Stamps, at, greatest, with_entry}
-use Rattle.stamps.specs.Stamps.{last_stamp}
+use Rattle.stamps.specs.Stamps.{top_stamp}
 use Rattle.marks.specs.Kinds.{Kind}
 use Rattle.servers.specs.Entries.{Sent, heartbeat, update}
-use Rattle.servers.specs.Laws.{Call, In, Lawful, Life, Rising, RisingLaw, beat, called, hand_over, life, newest, put, raise, report, stamped, take_from, tell, tidy, unstamped}
+use Rattle.servers.specs.Laws.{Call, In, OfStamps, Life, Rising, RisingLaw, beat, called, hand_over, life, newest, put, raise, report, stamped, take_from, tell, tidy, unstamped}
+use Rattle.servers.specs.Others.{is_other}
 use Rattle.servers.specs.Outboxes.{outbox_full}
 use Rattle.servers.specs.Servers.{Rule, ServerState, beaten_at, first_entry, first_received, keeping, last_of, putting_at, receiving, taking_other, told_reading}
 use Rattle.servers.specs.Tables.{table_full}
@@ -21,6 +22,9 @@ record Sound (site : ℕ) (l : Life) : Type 0 where
   reading : l.server.reading < 2 ^ 47
   rise : Rising l.made
   last : at l.server.marks.received site ≡ newest l.made
+
+other_apart : (own sites site : ℕ) → is_other own sites site ≡ true → site ≡ own → ⊥
+other_apart own sites site e = eqb-false site own (not-true _ (and_parts (ltb site sites) (not (eqb site own)) e).1)
 
 newest_stamp : (ss : List ℕ) → Rising ss → newest ss < 2 ^ 63
 newest_stamp [] h = omega arith
@@ -99,10 +103,10 @@ module _ (rule : Rule) (lawful : LawfulRule rule) (k : Kind) (site : ℕ) (few :
 
   take_sound : (l : Life) (from : ℕ) (e : Sent) → Sound site l → Sound site (called rule k l (take_from from e))
   take_sound l from e h =
-      cond_both (eqb from l.server.site) _ _ (SoundAfter l) (λ _. h)
-      (λ ne. other_sound l from e (λ is. eqb-false from l.server.site ne (sym is ∙ sym h.here)) h)
+      cond_both (is_other l.server.site l.server.sites from) _ _ (SoundAfter l)
+      (λ other. other_sound l from e (λ is. other_apart l.server.site l.server.sites from other (sym is ∙ sym h.here)) h) (λ _. h)
 
-  call_sound : (l : Life) (c : Call) → Lawful c → Sound site l → Sound site (called rule k l c)
+  call_sound : (l : Life) (c : Call) → OfStamps c → Sound site l → Sound site (called rule k l c)
   call_sound l (tell time) ok h = tell_sound l time h
   call_sound l beat ok h = beat_sound l h
   call_sound l (put key value depends knows) ok h = put_sound l key value depends knows ok h
@@ -117,9 +121,9 @@ module _ (rule : Rule) (lawful : LawfulRule rule) (k : Kind) (site : ℕ) (few :
   first_none sites within = by_site (λ i. i < 4 → i < sites → at (first_received sites) i ≡ 0) (first 0) (first 1) (first 2) (first 3) (λ n l _. absurd (omega arith)) site few within
     where
       first : (i : ℕ) → i < 4 → i < sites → first_entry sites i ≡ 0
-      first i _ lt = cond-true (ltb i sites) 0 last_stamp (lt-ltb i sites lt)
+      first i _ lt = cond-true (ltb i sites) 0 top_stamp (lt-ltb i sites lt)
 
-  life_sound : (sites : ℕ) → site < sites → (calls : List Call) → ((c : Call) → In c calls → Lawful c) → Sound site (life rule k site sites calls)
+  life_sound : (sites : ℕ) → site < sites → (calls : List Call) → ((c : Call) → In c calls → OfStamps c) → Sound site (life rule k site sites calls)
   life_sound sites within [] ok = record { here = refl; reading = omega arith; rise = tt; last = first_none sites within }
   life_sound sites within (c ∷ cs) ok = call_sound (life rule k site sites cs) c (ok c (inl refl)) (life_sound sites within cs (λ d i. ok d (inr i)))
 

@@ -17,6 +17,14 @@ kept_held p (y ∷ ys) x i = go (p y) (kept_held p ys x) i
     go true rec j = ⊎_elim inl (λ h. inr (rec h)) j
     go false rec j = inr (rec j)
 
+kept_passes : {A : Type 0} (p : A → Bool) (xs : List A) (x : A) → In x (filter p xs) → p x ≡ true
+kept_passes p [] x i = absurd i
+kept_passes p (y ∷ ys) x i = go (p y) refl (kept_passes p ys x) i
+  where
+    go : (b : Bool) → p y ≡ b → (In x (filter p ys) → p x ≡ true) → In x (cond b (y ∷ filter p ys) (filter p ys)) → p x ≡ true
+    go true is rec j = ⊎_elim (λ e. ap p e ∙ is) rec j
+    go false is rec j = rec j
+
 pub kept_stays : {A : Type 0} (p : A → Bool) (xs : List A) (x : A) → In x xs → p x ≡ true → In x (filter p xs)
 kept_stays p [] x i e = i
 kept_stays p (y ∷ ys) x i e = go (p y) refl (λ j. kept_stays p ys x j e) i
@@ -70,7 +78,7 @@ module _ (k : Kind) (safe : Four) where
   tidied_law vs =
       record {
         held = λ v i. kept_held (λ u. not (outdated k safe vs u)) vs v i;
-        stays = λ v i late. stay vs v i late;
+        gone = λ v w i key cov late kept. false≢true (sym (ap not (outdated_from vs v w i (key, cov, late))) ∙ kept_passes (λ u. not (outdated k safe vs u)) vs v kept);
         drops = λ v i. ⊎_elim
             (λ e. let r = outdated_gives vs v e in let m = replaced vs v r.0 r.1 r.2 (latest (covered k safe) v.key vs) (latest_law (covered k safe) v.key vs) in inr (m.0, m.1, m.2.0, m.2.1, m.2.2))
             (λ e. inl (kept_stays (λ u. not (outdated k safe vs u)) vs v i (ap not e)))

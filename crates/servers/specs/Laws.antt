@@ -38,10 +38,9 @@ IsLatest shows key vs (Some b) = In b vs × Passes shows key b × ((v : VersionS
 pub record IsTidied (k : Kind) (safe : Four) (before after : List VersionState) (count : ℕ) : Type 0 where
   -- nothing comes in
   pub held : (v : VersionState) → In v after → In v before
-  -- what no later version of its key, covered by the safe mark, stands in for stays: so the latest covered version of a
-  -- key stays, and everything not older than it
-  pub stays : (v : VersionState) → In v before → ((w : VersionState) → In w before → w.key ≡ v.key → covered k safe w ≡ true → AsLate v w) → In v after
-  -- what is dropped is older than a version of its key that stays and is covered
+  -- what is older than a version of its key that the safe mark covers is dropped
+  pub gone : (v w : VersionState) → In w before → w.key ≡ v.key → covered k safe w ≡ true → Later w v → In v after → ⊥
+  -- what is dropped is older than such a version that stays; so the latest of these stays, and all that is not older
   pub drops : (v : VersionState) → In v before
       → In v after ⊎ ((w : VersionState) × In w after × (w.key ≡ v.key) × (covered k safe w ≡ true) × Later w v)
   pub counts : length after + count ≡ length before
@@ -107,15 +106,9 @@ pub data Call : Type 0 where
   tidy : Four → Call
 
 -- What a put depends on is a row of stamps, as the row of every mark is. Of the other numbers nothing is asked.
-abbrev pub Lawful : Call → Type 0
-Lawful (tell time) = Unit {0}
-Lawful beat = Unit {0}
-Lawful (put key value depends knows) = Stamps depends
-Lawful (take_from from e) = Unit {0}
-Lawful (hand_over site) = Unit {0}
-Lawful report = Unit {0}
-Lawful (raise mark) = Unit {0}
-Lawful (tidy safe) = Unit {0}
+abbrev pub OfStamps : Call → Type 0
+OfStamps (put key value depends knows) = Stamps depends
+OfStamps call = Unit {0}
 
 -- a server, and the stamps that its own puts and heartbeats were answered, the newest first
 pub record Life : Type 0 where
@@ -159,5 +152,5 @@ Rising (s ∷ ss) = (newest ss < s) × (s < 2 ^ 63) × Rising ss
 -- After any calls, the stamps that a server of the layout has made rise, and the newest of them is its last stamp.
 abbrev pub RisingLaw : Rule → Kind → ℕ → ℕ → Type 0
 RisingLaw rule k site sites =
-    (calls : List Call) → ((c : Call) → In c calls → Lawful c) → site < sites
+    (calls : List Call) → ((c : Call) → In c calls → OfStamps c) → site < sites
     → Rising (life rule k site sites calls).made × (last_of (life rule k site sites calls).server ≡ newest (life rule k site sites calls).made)

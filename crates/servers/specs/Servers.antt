@@ -1,13 +1,14 @@
 -- One server: its state in plain numbers, and its part of each call.
-use Rattle.std.specs.Prelude.{ℕ, Bool, cond, List, [], ◌∷◌, ◌++◌, ℤ, pos, ◌-ℤ◌, Ok, Err, Option, Result, ◌==◌, nat_lt}
+use Rattle.std.specs.Prelude.{ℕ, Bool, cond, List, [], ◌∷◌, ◌++◌, ℤ, pos, ◌-ℤ◌, Ok, Err, Option, Result, nat_lt}
 use Rattle.stamps.specs.declared.refusal.Refusal.{Refusal}
 use Rattle.stamps.specs.declared.refusal.Refusal.TheVariants.{NotInLayout, ReadingBehind, TableFull, OutboxFull}
 use Rattle.stamps.specs.Checks.{checked_reading}
 use Rattle.marks.specs.Kinds.{Kind}
 use Rattle.stamps.specs.Rows.{Four, at, four, greatest, join, same, with_entry}
-use Rattle.stamps.specs.Stamps.{last_stamp, time_of}
+use Rattle.stamps.specs.Stamps.{top_stamp, time_of}
 use Rattle.servers.specs.Entries.{Sent, update, heartbeat, stamp_of}
 use Rattle.servers.specs.Held.{held}
+use Rattle.servers.specs.Others.{is_other}
 use Rattle.servers.specs.Outboxes.{Queues, issued, none_waiting, outbox_full, taken_by, waiting}
 use Rattle.servers.specs.Tables.{covered, latest, table_full, tidying, visible}
 use Rattle.servers.specs.Values.{Worth}
@@ -49,7 +50,7 @@ view s =
 
 -- nothing was received yet; a site that the layout lacks never sends anything
 abbrev pub first_entry : ℕ → ℕ → ℕ
-first_entry sites site = cond (nat_lt site sites) 0 last_stamp
+first_entry sites site = cond (nat_lt site sites) 0 top_stamp
 
 abbrev pub first_received : ℕ → Four
 first_received sites = record { site0 = first_entry sites 0; site1 = first_entry sites 1; site2 = first_entry sites 2; site3 = first_entry sites 3 }
@@ -63,20 +64,19 @@ abbrev pub last_of : ServerState → ℕ
 last_of s = at s.marks.received s.site
 
 abbrev pub with_received : MarksState → ℕ → ℕ → MarksState
-with_received m site stamp = record { received = with_entry m.received site stamp; reported = m.reported; stable = m.stable }
+with_received m site stamp = record m { received = with_entry m.received site stamp }
 
 abbrev pub with_stable : MarksState → Four → MarksState
-with_stable m stable = record { received = m.received; reported = m.reported; stable = stable }
+with_stable m stable = record m { stable = stable }
 
 abbrev pub with_marks : ServerState → MarksState → ServerState
-with_marks s marks = record { site = s.site; sites = s.sites; reading = s.reading; marks = marks; held = s.held; waiting = s.waiting }
+with_marks s marks = record s { marks = marks }
 
 -- tell: a reading outside its range is refused before one that is behind
 abbrev pub told_reading : ServerState → Result ℕ Refusal → Result (Unit {0}) Refusal × ServerState
 told_reading s (Err why) = (Err why, s)
 told_reading s (Ok time) =
-    cond (nat_lt time s.reading) (Err ReadingBehind, s)
-    (Ok tt, record { site = s.site; sites = s.sites; reading = time; marks = s.marks; held = s.held; waiting = s.waiting })
+    cond (nat_lt time s.reading) (Err ReadingBehind, s) (Ok tt, record s { reading = time })
 
 abbrev pub told : ServerState → ℕ → Result (Unit {0}) Refusal × ServerState
 told s time = told_reading s (checked_reading time)
@@ -84,7 +84,7 @@ told s time = told_reading s (checked_reading time)
 -- an entry is issued: its stamp is the last one, and every other site has it to take
 abbrev pub issuing : ServerState → Sent → ServerState
 issuing s e =
-    record { site = s.site; sites = s.sites; reading = s.reading; marks = with_received s.marks s.site (stamp_of e); held = s.held; waiting = issued s.site s.sites s.waiting e }
+    record s { marks = with_received s.marks s.site (stamp_of e); waiting = issued s.site s.sites s.waiting e }
 
 -- heartbeat: a full outbox is refused before the rule is asked
 abbrev pub beaten_at : ServerState → Result ℕ Refusal → Result ℕ Refusal × ServerState
@@ -104,7 +104,7 @@ raised k s mark = with_marks s (with_stable s.marks (join (k.floor s.marks.stabl
 
 -- the reported mark is the floor of the received row
 abbrev pub reporting : Kind → ServerState → ServerState
-reporting k s = with_marks s (record { received = s.marks.received; reported = k.floor s.marks.received; stable = s.marks.stable })
+reporting k s = with_marks s (record s.marks { reported = k.floor s.marks.received })
 
 -- put: the version that is made
 abbrev pub put_version : ServerState → ℕ → Worth → Four → ℕ → VersionState
@@ -112,7 +112,7 @@ put_version s key value depends stamp = record { key = key; value = value; stamp
 
 -- the version is kept, at the end
 abbrev pub keeping : ServerState → VersionState → ServerState
-keeping s v = record { site = s.site; sites = s.sites; reading = s.reading; marks = s.marks; held = s.held ++ v ∷ []; waiting = s.waiting }
+keeping s v = record s { held = s.held ++ v ∷ [] }
 
 -- with a stamp, the version is kept and issued, and the stable mark is raised by what the session knows
 abbrev pub putting_at : Kind → ServerState → ℕ → Worth → Four → Four → Result ℕ Refusal → Result ℕ Refusal × ServerState
@@ -133,27 +133,28 @@ putting rule k s key value depends knows =
 abbrev pub receiving : ServerState → ℕ → ℕ → ServerState
 receiving s from stamp = with_marks s (with_received s.marks from stamp)
 
--- an entry of another site is taken: a full table refuses an update
+-- an entry of another site of the layout is taken: a full table refuses an update
 abbrev pub taking_other : ServerState → ℕ → Sent → Result (Unit {0}) Refusal × ServerState
 taking_other s from (heartbeat stamp) = (Ok tt, receiving s from stamp)
 taking_other s from (update v) = cond (table_full s.held) (Err TableFull, s) (Ok tt, receiving (keeping s v) from v.stamp)
 
--- take: an entry of the server's own site is refused before anything else
+-- take: an entry of any other origin is refused before anything else
 abbrev pub taking : ServerState → ℕ → Sent → Result (Unit {0}) Refusal × ServerState
-taking s from e = cond (from == s.site) (Err NotInLayout, s) (taking_other s from e)
+taking s from e = cond (is_other s.site s.sites from) (taking_other s from e) (Err NotInLayout, s)
 
 -- a site has taken its next entry
 abbrev pub handing : ServerState → ℕ → ServerState
-handing s site = record { site = s.site; sites = s.sites; reading = s.reading; marks = s.marks; held = s.held; waiting = taken_by s.waiting site }
+handing s site = record s { waiting = taken_by s.waiting site }
 
 -- whether a version is visible at the server
 abbrev pub sees : Kind → ServerState → VersionState → Bool
 sees k s = visible k s.site (k.floor s.marks.stable)
 
--- the latest version of a key that is visible, and that a cut covers
+-- the latest version of a key that is visible
 abbrev pub latest_visible : Kind → ServerState → ℕ → Option VersionState
 latest_visible k s key = latest (sees k s) key s.held
 
+-- the latest version of a key that a cut covers
 abbrev pub latest_covered : Kind → ServerState → ℕ → Four → Option VersionState
 latest_covered k s key cut = latest (covered k cut) key s.held
 
@@ -161,4 +162,4 @@ latest_covered k s key cut = latest (covered k cut) key s.held
 abbrev pub tidied_up : Kind → ServerState → Four → ℕ × ServerState
 tidied_up k s safe =
     let t = tidying k safe s.held in
-    (t.0, record { site = s.site; sites = s.sites; reading = s.reading; marks = s.marks; held = t.1; waiting = s.waiting })
+    (t.0, record s { held = t.1 })

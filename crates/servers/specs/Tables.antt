@@ -5,9 +5,9 @@ use Rattle.stamps.specs.Rows.{Four, covers}
 use Rattle.marks.specs.Kinds.{Kind}
 use Rattle.servers.specs.Versions.{VersionState, later, full_mark}
 
--- the cut of a snapshot covers the version
+-- the mark of this row covers the version
 abbrev pub covered : Kind → Four → VersionState → Bool
-covered k cut v = covers cut (full_mark k v)
+covered k mark v = covers mark (full_mark k v)
 
 -- the version is visible at a site under a stable mark: it is local, or the stable mark covers it
 abbrev pub visible : Kind → ℕ → Four → VersionState → Bool

@@ -1,4 +1,4 @@
--- Versions: what they say in plain numbers, which is later, and what their readers depend on.
+-- Versions: what they say in plain numbers, which is later, and their full marks.
 use Rattle.std.specs.Prelude.{ℕ, Bool, ◌&&◌, ◌||◌, ◌==◌, nat_lt}
 use Rattle.stamps.specs.Rows.{Four, four, join}
 use Rattle.marks.specs.Kinds.{Kind}
@@ -21,6 +21,6 @@ plain v = record { key = v.key; value = worth v.value; stamp = v.stamp.value; so
 abbrev pub later : VersionState → VersionState → Bool
 later v w = nat_lt w.stamp v.stamp || (w.stamp == v.stamp && nat_lt w.source v.source)
 
--- the full mark: what whoever has seen the version depends on
+-- the full mark: the version and what its writer depended on
 abbrev pub full_mark : Kind → VersionState → Four
 full_mark k v = join (k.floor v.mark) (k.lift v.source v.stamp)

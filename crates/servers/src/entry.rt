@@ -9,7 +9,7 @@ use stamps::stamp::Stamp;
 pub enum Entry {
     // A version that was put.
     Update(Version),
-    // Nothing was put up to this stamp.
+    // The server has reached this stamp: what it makes from here on has a higher one.
     Heartbeat(Stamp),
 }
 

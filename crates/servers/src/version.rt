@@ -45,7 +45,7 @@ impl Version {
         (self.stamp, self.source) > (other.stamp, other.source)
     }
 
-    // The mark of all that whoever has seen this version depends on.
+    // The mark of the version and of what its writer depended on: whoever has seen it depends on these.
     pub fn full_mark<K: MarkKind>(&self) -> K::Mark
         ensures { K.MarkKind.meaning result ≡ full_mark K.MarkKind.kind (plain self.now) }
     {

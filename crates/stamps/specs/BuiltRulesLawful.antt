@@ -4,7 +4,7 @@ use Rattle.std.proofs.Common.{inl, inr, arith}
 use Rattle.stamps.specs.declared.refusal.Refusal.TheVariants.{Early, End}
 use Rattle.std.proofs.lemmas.Bool.{leb-false}
 use Rattle.std.proofs.lemmas.Bool.Decides.{nat_tests}
-use Rattle.stamps.specs.Stamps.{last_stamp, stamp_of, time_of, count_of}
+use Rattle.stamps.specs.Stamps.{top_stamp, stamp_of, time_of, count_of}
 use Rattle.stamps.specs.Clocks.{LawfulRule, Allowed, raw, hybrid, new_time, new_count, carried}
 
 -- the answer, by what the two tests came to
@@ -23,7 +23,7 @@ abbrev count : ℕ → ℕ → ℕ → ℕ
 count last time dependency = new_count (time_of last == time) (time_of dependency == time) (count_of last) (count_of dependency)
 
 hybrid_allowed : (p q : Bool) (last reading dependency : ℕ) → last < 2 ^ 63 → reading < 2 ^ 47 → dependency < 2 ^ 63
-    → (last == last_stamp) ≡ p → (dependency == last_stamp) ≡ q
+    → (last == top_stamp) ≡ p → (dependency == top_stamp) ≡ q
     → Allowed last dependency (cond (p || q) (Err End) (Ok (carried (new_time last reading dependency) (count last (new_time last reading dependency) dependency))))
 hybrid_allowed true q last reading dependency l r d a b = inr refl
 hybrid_allowed false true last reading dependency l r d a b = inr refl

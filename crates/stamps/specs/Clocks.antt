@@ -2,7 +2,7 @@
 use Rattle.std.specs.Prelude.{◌≡◌, ℕ, ◌+◌, ◌^◌, ◌<◌, max, Bool, true, false, cond, ◌||◌, ◌⊎◌, Ok, Err, Result, ◌==◌, nat_le, nat_lt}
 use Rattle.stamps.specs.declared.refusal.Refusal.{Refusal}
 use Rattle.stamps.specs.declared.refusal.Refusal.TheVariants.{Early, End}
-use Rattle.stamps.specs.Stamps.{last_stamp, stamp_of, time_of, count_of}
+use Rattle.stamps.specs.Stamps.{top_stamp, stamp_of, time_of, count_of}
 
 -- what a rule may answer: a stamp above both that it was given, or early, or end
 abbrev pub Allowed : ℕ → ℕ → Result ℕ Refusal → Type 0
@@ -35,5 +35,5 @@ carried time count = cond (nat_lt 65535 count) (stamp_of (time + 1) 0) (stamp_of
 abbrev pub hybrid : ℕ → ℕ → ℕ → Result ℕ Refusal
 hybrid last reading dependency =
     let time = new_time last reading dependency in
-    cond (last == last_stamp || dependency == last_stamp) (Err End)
+    cond (last == top_stamp || dependency == top_stamp) (Err End)
     (Ok (carried time (new_count (time_of last == time) (time_of dependency == time) (count_of last) (count_of dependency))))

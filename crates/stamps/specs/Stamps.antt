@@ -1,8 +1,8 @@
 -- A stamp is a number below 2^63: time * 65,536 + count, with a count below 65,536.
 use Rattle.std.specs.Prelude.{ℕ, ◌+◌, ◌*◌, ◌/◌, ◌%◌}
 
-abbrev pub last_stamp : ℕ
-last_stamp = 0x7fff_ffff_ffff_ffff
+abbrev pub top_stamp : ℕ
+top_stamp = 0x7fff_ffff_ffff_ffff
 
 abbrev pub stamp_of : ℕ → ℕ → ℕ
 stamp_of time count = time * 65536 + count

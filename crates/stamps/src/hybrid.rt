@@ -17,7 +17,7 @@ impl ClockRule for Hybrid {
     ghost lawful = { hybrid_lawful };
 
     fn stamp(last: Stamp, reading: Reading, dependency: Stamp) -> Result<Stamp, Refusal> {
-        if last == Stamp::last() || dependency == Stamp::last() {
+        if last == Stamp::top() || dependency == Stamp::top() {
             return Err(Refusal::End);
         }
         let time = last.time().max(dependency.time()).max(reading.time);

@@ -35,7 +35,7 @@ pub enum Refusal {
     UnknownLetter = 14,
     // The first command is no layout, or a later one is.
     LayoutMisplaced = 15,
-    // The buffer for a line is too short.
+    // The buffer for a line, or for a whole listing, is too short.
     ShortBuffer = 16,
 }
 

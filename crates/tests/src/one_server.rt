@@ -201,7 +201,7 @@ fn at_equal_stamps_the_higher_source_is_later(rt: HostRuntime) -> Result<(), Fai
     let mut taker = hybrid_server(2)?;
     pass(&mut high, 1, &mut taker, 2)?;
     pass(&mut low, 0, &mut taker, 2)?;
-    let Some(version) = taker.latest_covered(1, Stamp::last()) else {
+    let Some(version) = taker.latest_covered(1, Stamp::top()) else {
         return Err(Fail::new("nothing is covered"));
     };
     assert_eq!(rt;

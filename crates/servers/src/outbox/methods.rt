@@ -3,6 +3,7 @@ ghost use Rattle.std.specs.Prelude.{◌≡◌};
 ghost use Rattle.std.specs.Option.{option_map};
 ghost use Rattle.servers.specs.Entries.{sent};
 ghost use Rattle.servers.specs.Laws.{QueueLaw};
+ghost use Rattle.servers.specs.Others.{is_other};
 ghost use Rattle.servers.specs.Outboxes.{waiting, none_waiting, outbox_full, issued, next_for, taken_by, issued_if_room};
 
 use super::Outbox;
@@ -31,6 +32,13 @@ impl Outbox {
         ensures { result.number ≡ self.now.peers.own.number }
     {
         self.peers.own
+    }
+
+    // Whether it is another site of the layout.
+    pub(crate) fn has_other(&self, site: Site) -> bool
+        ensures { result ≡ is_other self.now.peers.own.number self.now.peers.sites.number site.number }
+    {
+        self.peers.has_other(site.number())
     }
 
     // Whether some other site has as many entries still to take as are kept for it.

@@ -111,25 +111,18 @@ impl<C: ClockRule, K: MarkKind> Server<C, K> {
         self.outbox.take(site);
     }
 
-    // Takes an entry of another site's server; its own entries are refused.
+    // Takes an entry of another site's server; one of any other origin is refused.
     pub fn take(&mut self, from: Site, entry: Entry) -> Result<(), Refusal>
         ensures step { (result, view self.new) ≡ taking (view self.old) from.number (sent entry) }
         ensures keeps { RefusalKeeps result (view self.old) (view self.new) }
     {
-        if self.is_at(from) {
+        if !self.outbox.has_other(from) {
             return Err(Refusal::NotInLayout);
         }
         self.take_other(from, entry)
     }
 
-    // Whether it is a server of this site.
-    fn is_at(&self, site: Site) -> bool
-        ensures { result ≡ (site.number == (view self.now).site) }
-    {
-        site == self.outbox.own()
-    }
-
-    // Takes an entry of a server that stands at another site.
+    // Takes an entry of a server that stands at another site of the layout.
     fn take_other(&mut self, from: Site, entry: Entry) -> Result<(), Refusal>
         ensures step { (result, view self.new) ≡ taking_other (view self.old) from.number (sent entry) }
         ensures keeps { RefusalKeeps result (view self.old) (view self.new) }

@@ -72,6 +72,6 @@ fn first_entry(sites: SiteCount, site: u8) -> Stamp
     if site < sites.number() {
         Stamp::zero()
     } else {
-        Stamp::last()
+        Stamp::top()
     }
 }

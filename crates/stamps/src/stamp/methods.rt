@@ -1,6 +1,6 @@
 // How a stamp is made and taken apart.
 ghost use Rattle.std.specs.Prelude.{◌≡◌};
-ghost use Rattle.stamps.specs.Stamps.{last_stamp, time_of, count_of};
+ghost use Rattle.stamps.specs.Stamps.{top_stamp, time_of, count_of};
 ghost use Rattle.stamps.specs.Checks.{stamp_number, checked_stamp};
 
 use super::Stamp;
@@ -28,9 +28,9 @@ impl Stamp {
         Stamp { value: 0 }
     }
 
-    // The stamp above which there is none.
-    pub fn last() -> Stamp
-        ensures { result.value ≡ last_stamp }
+    // The top stamp, above which there is none.
+    pub fn top() -> Stamp
+        ensures { result.value ≡ top_stamp }
     {
         Stamp {
             value: (1 << 63) - 1,
