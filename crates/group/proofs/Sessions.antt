@@ -89,7 +89,7 @@ puts k g mid after i key stamp x value (Ok given, s) mark wrote full sets =
     ap (λ h. (Ok stamp, h))
     (sets ∙ ap (λ h. with_session h i (record { site = x.site; depends = mark; knows = x.knows })) (ap second wrote)
     ∙ ap (λ m. with_session (with_server g x.site p s) i (record { site = x.site; depends = m; knows = x.knows })) full)
-    ∙ ap (λ n. (Ok n, with_session (with_server g x.site p s) i (depending k x (full_mark k (put_version (g.server x.site p) key value (k.floor x.depends) n))))) same
+    ∙ ap (λ n. (Ok n, with_session (with_server g x.site p s) i (depending x (full_mark k (put_version (g.server x.site p) key value (k.floor x.depends) n))))) same
 
 -- what was written is not, and the group is as it was
 pub puts_not : (k : Kind) (g mid : GroupState) (i key : ℕ) (why : Refusal) (x : SessionState) (value : Worth) (t : Result ℕ Refusal × ServerState)

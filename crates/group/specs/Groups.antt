@@ -60,4 +60,4 @@ RowsOf {C} {K} {Mark} gives server (suc n) rows =
 abbrev pub depending_on : Kind → GroupState → ℕ → VersionState → GroupState
 depending_on k g i v =
     let x = session_at g i in
-    with_session g i (depending k x (join (k.floor x.depends) (full_mark k v)))
+    with_session g i (depending x (join (k.floor x.depends) (full_mark k v)))

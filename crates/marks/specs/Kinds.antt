@@ -12,6 +12,10 @@ pub record Kind : Type 1 where
   -- the least mark with at least a stamp at a site, as its row
   pub lift : ℕ → ℕ → Four
 
+-- the row of a mark of the kind
+abbrev pub IsMark : Kind → Four → Type 0
+IsMark k row = Stamps row × k.Means row
+
 -- All of it is said of rows of stamps.
 pub record LawfulKind (k : Kind) : Type 0 where
   -- the kind has every row of four equal stamps, and the join and meet of its rows

@@ -1,7 +1,7 @@
 // What a kind of mark is.
 ghost use Rattle.std.specs.Prelude.{◌≡◌, ℕ};
-ghost use Rattle.stamps.specs.Rows.{Four, Stamps, four, covers, join, meet};
-ghost use Rattle.marks.specs.Kinds.{Kind, LawfulKind};
+ghost use Rattle.stamps.specs.Rows.{Four, four, covers, join, meet};
+ghost use Rattle.marks.specs.Kinds.{Kind, IsMark, LawfulKind};
 
 use stamps::row::Row;
 use stamps::site::Site;
@@ -58,6 +58,6 @@ pub trait MarkKind {
     // The constant is the kind's number of columns.
     ghost counted: { COLUMNS ≡ kind.columns };
 
-    // The row of a mark is a row of stamps that the kind can mean.
-    ghost meant: { (mark : Self.Mark) → Stamps (meaning mark) × kind.Means (meaning mark) };
+    // The row of a mark is one that the kind can mean.
+    ghost meant: { (mark : Self.Mark) → IsMark kind (meaning mark) };
 }

@@ -1,14 +1,14 @@
 -- Marks only rise: what stays true when they do, and the effects of a call that only raises marks.
 use Rattle.std.proofs.Common.{◌≡◌, ℕ, ◌<◌, ◌⊎◌, List, Option, sym, refl, ◌∙◌, subst, inl, inr, le_trans, mod-lt}
 use Rattle.stamps.specs.Rows.{Four, Stamps, Covers}
-use Rattle.marks.specs.Kinds.{Kind}
+use Rattle.marks.specs.Kinds.{Kind, IsMark}
 use Rattle.servers.specs.Entries.{Sent}
 use Rattle.servers.specs.Laws.{In}
 use Rattle.servers.specs.Versions.{VersionState, full_mark}
 use Rattle.model.specs.Events.{Put, Later}
 use Rattle.model.specs.Groups.{SessionState, SeatState}
 use Rattle.model.specs.Pasts.{Pasts}
-use Rattle.model.proofs.Rows.{Mark, covers_self, covers_trans, covers_at}
+use Rattle.model.proofs.Rows.{covers_self, covers_trans, covers_at}
 use Rattle.model.proofs.Lists.{set1, set2, set1_cases, set2_cases}
 use Rattle.model.proofs.Invariant.{Shape, part, Ghost, Tables, name_of, Had, Below, StandsIn, HeldInv, ServerMarks, SessionInv, CutInv, Reached, Before, PastInv, Core}
 
@@ -158,7 +158,7 @@ module _ {k : Kind} {L : Shape} where
   }
 
   -- the stable mark of (s, n) rises to m
-  pub raised : {P : Pasts} {T : Tables} {G : Ghost} (s n : ℕ) (m : Four) → Mark k m → Covers m (T.stable s n) → Below L T.received s m →
+  pub raised : {P : Pasts} {T : Tables} {G : Ghost} (s n : ℕ) (m : Four) → IsMark k m → Covers m (T.stable s n) → Below L T.received s m →
       Core k L P T G → Core k L P (with_stable T (set2 T.stable s n m) T.safe) G
   raised {T = T} s n m mk c b h =
       let up = rises_set T.stable s n m c in
@@ -170,7 +170,7 @@ module _ {k : Kind} {L : Shape} where
           received_stamps = h.marks.received_stamps;
           reported_mark = h.marks.reported_mark;
           reported_below = h.marks.reported_below;
-          stable_mark = λ s' n'. set2_cases T.stable s n m s' n' (Mark k) (λ _ _. mk) (λ _. h.marks.stable_mark s' n');
+          stable_mark = λ s' n'. set2_cases T.stable s n m s' n' (IsMark k) (λ _ _. mk) (λ _. h.marks.stable_mark s' n');
           stable_below = λ s' n'. set2_cases T.stable s n m s' n' (λ x. Below L T.received s' x) (λ e _. rw e b) (λ _. h.marks.stable_below s' n');
         };
         sessions = h.sessions;
@@ -202,14 +202,14 @@ module _ {k : Kind} {L : Shape} where
       }
 
   -- a server reports the floor of what it has received
-  pub reported : {P : Pasts} {T : Tables} {G : Ghost} (s n : ℕ) (m : Four) → Mark k m → Covers (T.received s n) m → Core k L P T G → Core k L P (with_reported T (set2 T.reported s n m)) G
+  pub reported : {P : Pasts} {T : Tables} {G : Ghost} (s n : ℕ) (m : Four) → IsMark k m → Covers (T.received s n) m → Core k L P T G → Core k L P (with_reported T (set2 T.reported s n m)) G
   reported {T = T} s n m mk c h = record {
     logs = h.logs;
     queues = h.queues;
     holds = h.holds;
     marks = record {
       received_stamps = h.marks.received_stamps;
-      reported_mark = λ s' n'. set2_cases T.reported s n m s' n' (Mark k) (λ _ _. mk) (λ _. h.marks.reported_mark s' n');
+      reported_mark = λ s' n'. set2_cases T.reported s n m s' n' (IsMark k) (λ _ _. mk) (λ _. h.marks.reported_mark s' n');
       reported_below = λ s' n'. set2_cases T.reported s n m s' n' (λ x. Covers (T.received s' n') x) (λ e f. rw (e, f) c) (λ _. h.marks.reported_below s' n');
       stable_mark = h.marks.stable_mark;
       stable_below = h.marks.stable_below;

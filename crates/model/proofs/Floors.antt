@@ -4,11 +4,11 @@ use Rattle.std.proofs.lemmas.Bool.{cases_eq}
 use Rattle.stamps.specs.Rows.{Four, Stamps, Covers}
 use Rattle.stamps.specs.Stamps.{top_stamp}
 use Rattle.stamps.proofs.Rows.{meet_left, meet_right, meet_greatest}
-use Rattle.marks.specs.Kinds.{Kind, LawfulKind}
+use Rattle.marks.specs.Kinds.{Kind, IsMark, LawfulKind}
 use Rattle.servers.specs.Laws.{In}
 use Rattle.marks.specs.CommonFloors.{common_floor}
 use Rattle.model.specs.Groups.{first_of}
-use Rattle.model.proofs.Rows.{Mark, covers_trans, floor_mark, floor_under, meet_mark}
+use Rattle.model.proofs.Rows.{covers_trans, floor_mark, floor_under, meet_mark}
 use Rattle.model.proofs.Lists.{in_left, in_end, in_push}
 
 -- all rows are rows of stamps
@@ -16,7 +16,7 @@ abbrev pub AllStamps : List Four → Type 0
 AllStamps xs = (x : Four) → In x xs → Stamps x
 
 module _ {k : Kind} (law : LawfulKind k) where
-  pub common_mark : (xs : List Four) → AllStamps xs → Mark k (common_floor k xs)
+  pub common_mark : (xs : List Four) → AllStamps xs → IsMark k (common_floor k xs)
   common_mark [] st = ((lit< tt, lit< tt, lit< tt, lit< tt), law.same_means top_stamp (lit< tt))
   common_mark (x ∷ xs) st = meet_mark law (floor_mark law (st x (inl refl))) (common_mark xs (λ y i. st y (inr i)))
 
@@ -26,7 +26,7 @@ module _ {k : Kind} (law : LawfulKind k) where
       subst (λ (z : Four). Covers z (common_floor k (y ∷ ys))) (sym e) (covers_trans (floor_under law (st y (inl refl))) (meet_left (k.floor y) (common_floor k ys)))
   common_below (y ∷ ys) st x (inr i) = covers_trans (common_below ys (λ z j. st z (inr j)) x i) (meet_right (k.floor y) (common_floor k ys))
 
-  pub common_greatest : (xs : List Four) → AllStamps xs → (m : Four) → Mark k m → ((x : Four) → In x xs → Covers x m) → Covers (common_floor k xs) m
+  pub common_greatest : (xs : List Four) → AllStamps xs → (m : Four) → IsMark k m → ((x : Four) → In x xs → Covers x m) → Covers (common_floor k xs) m
   common_greatest [] st m mk c = let s = mk.0 in (omega arith, omega arith, omega arith, omega arith)
   common_greatest (x ∷ xs) st m mk c =
       meet_greatest (k.floor x) (common_floor k xs) m

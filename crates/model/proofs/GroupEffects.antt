@@ -1,14 +1,14 @@
 -- The invariant of a group with one server, one session or one seat replaced.
 use Rattle.std.proofs.Common.{◌≡◌, ℕ, suc, ◌<◌, ◌≤◌, List, [], ◌∷◌, ◌++◌, length, Some, None, Option, sym, refl, ap, ◌∙◌, subst, arith}
 use Rattle.stamps.specs.Rows.{Four, Stamps, Covers, join}
-use Rattle.marks.specs.Kinds.{Kind, LawfulKind}
+use Rattle.marks.specs.Kinds.{Kind, IsMark, LawfulKind}
 use Rattle.servers.specs.Entries.{Sent}
 use Rattle.servers.specs.Servers.{MarksState, ServerState, raised as raised_server, reporting, tidied_up}
 use Rattle.servers.specs.Versions.{VersionState}
 use Rattle.model.specs.Calls.{safe_mark}
 use Rattle.model.specs.Groups.{GroupState, SessionState, SeatState, new_session, session_at, seat_at, with_server, with_sessions, with_session, with_seat}
 use Rattle.model.specs.Pasts.{Pasts}
-use Rattle.model.proofs.Rows.{Mark, covers_self, covers_trans, join_left, join_least, join_mark, floor_mark, floor_over, floor_under}
+use Rattle.model.proofs.Rows.{covers_self, covers_trans, join_left, join_least, join_mark, floor_mark, floor_over, floor_under}
 use Rattle.model.proofs.Lists.{set1, set2, set1_cases, set2_cases, set1_other, set2_same, get_d_set, get_d_push}
 use Rattle.model.proofs.Floors.{AllStamps}
 use Rattle.model.proofs.Invariant.{Shape, Ghost, Tables, tables, Below, SessionInv, Core}
@@ -29,8 +29,8 @@ with_servers g server =
 
 module _ {k : Kind} (law : LawfulKind k) {P : Pasts} {G : Ghost} (g : GroupState) (four : g.sites ≤ 4) (some : 1 ≤ g.partitions)
     (h : Core k (shape g four some) P (tables k g) G) where
-  cut_stamps : (a : ℕ) (y : SeatState) → seat_at g a ≡ Some y → Mark k y.cut
-  cut_stamps a y e = let o = h.seats a y e in subst (Mark k) (sym o.its_cut) (h.cuts.cut_mark y.serial o.issued)
+  cut_stamps : (a : ℕ) (y : SeatState) → seat_at g a ≡ Some y → IsMark k y.cut
+  cut_stamps a y e = let o = h.seats a y e in subst (IsMark k) (sym o.its_cut) (h.cuts.cut_mark y.serial o.issued)
 
   -- the rows of the safe mark are rows of stamps
   pub safe_rows_lem : (s : ℕ) → AllStamps (safe_rows g s)
@@ -39,7 +39,7 @@ module _ {k : Kind} (law : LawfulKind k) {P : Pasts} {G : Ghost} (g : GroupState
   -- ---- one server replaced
 
   -- the safe marks do not fall if the stable marks do not
-  pub safe_servers : (server : ℕ → ℕ → ServerState) → ((s n : ℕ) → Mark k (server s n).marks.stable) → ((s n : ℕ) → Covers (server s n).marks.stable (g.server s n).marks.stable) →
+  pub safe_servers : (server : ℕ → ℕ → ServerState) → ((s n : ℕ) → IsMark k (server s n).marks.stable) → ((s n : ℕ) → Covers (server s n).marks.stable (g.server s n).marks.stable) →
       (s : ℕ) → Covers (safe_mark k (with_servers g server) s) (safe_mark k g s)
   safe_servers server mk up s = safe_covers law (with_servers g server) s
       (rows_stamps (with_servers g server) s (λ n. (mk s n).0) (λ a y e. (cut_stamps a y e).0))
@@ -47,10 +47,10 @@ module _ {k : Kind} (law : LawfulKind k) {P : Pasts} {G : Ghost} (g : GroupState
       (λ n l. covers_trans (up s n) (safe_stable law g s (safe_rows_lem s) n l))
       (λ a y e at_s. safe_cut law g s (safe_rows_lem s) a y e at_s)
 
-  pub safe_server : (s n : ℕ) (x : ServerState) → Mark k x.marks.stable → Covers x.marks.stable (g.server s n).marks.stable →
+  pub safe_server : (s n : ℕ) (x : ServerState) → IsMark k x.marks.stable → Covers x.marks.stable (g.server s n).marks.stable →
       (s' : ℕ) → Covers (safe_mark k (with_server g s n x) s') (safe_mark k g s')
   safe_server s n x mk up = safe_servers (set2 g.server s n x)
-      (λ i m. set2_cases g.server s n x i m (λ y. Mark k y.marks.stable) (λ _ _. mk) (λ _. h.marks.stable_mark i m))
+      (λ i m. set2_cases g.server s n x i m (λ y. IsMark k y.marks.stable) (λ _ _. mk) (λ _. h.marks.stable_mark i m))
       (λ i m. set2_cases g.server s n x i m (λ y. Covers y.marks.stable (g.server i m).marks.stable)
       (λ a b. subst (λ (z : ℕ). Covers x.marks.stable (g.server i z).marks.stable) (sym b) (subst (λ (z : ℕ). Covers x.marks.stable (g.server z n).marks.stable) (sym a) up))
       (λ _. covers_self (g.server i m).marks.stable))
@@ -62,17 +62,17 @@ module _ {k : Kind} (law : LawfulKind k) {P : Pasts} {G : Ghost} (g : GroupState
       set2 (λ i m. (g.server i m).marks.reported) s n x.marks.reported ≡ reported →
       set2 (λ i m. (g.server i m).marks.stable) s n x.marks.stable ≡ stable →
       set2 (λ i m. (g.server i m).waiting) s n x.waiting ≡ waits →
-      Mark k x.marks.stable → Covers x.marks.stable (g.server s n).marks.stable →
+      IsMark k x.marks.stable → Covers x.marks.stable (g.server s n).marks.stable →
       Core k (shape g four some) Q (record { held = held; received = received; reported = reported; stable = stable; waits = waits; opened = length g.sessions; session = session_at g; seat = seat_at g; next = g.next_serial; safe = safe_mark k g }) G' →
       Core k (shape g four some) Q (tables k (with_server g s n x)) G'
   place_server {Q = Q} {G' = G'} s n x a b c d e mk up core =
       subst (λ (T : Tables). Core k (shape g four some) Q T G') (sym (tables_server k g s n x a b c d e)) (safer (safe_mark k (with_server g s n x)) (λ s' _. safe_server s n x mk up s') core)
 
   same_safe : (s n : ℕ) (x : ServerState) → x.marks.stable ≡ (g.server s n).marks.stable → (s' : ℕ) → Covers (safe_mark k (with_server g s n x) s') (safe_mark k g s')
-  same_safe s n x e = safe_server s n x (subst (Mark k) (sym e) (h.marks.stable_mark s n)) (subst (λ (m : Four). Covers m (g.server s n).marks.stable) (sym e) (covers_self (g.server s n).marks.stable))
+  same_safe s n x e = safe_server s n x (subst (IsMark k) (sym e) (h.marks.stable_mark s n)) (subst (λ (m : Four). Covers m (g.server s n).marks.stable) (sym e) (covers_self (g.server s n).marks.stable))
 
   -- mark m, below what the site has received, is joined into a stable mark
-  pub raise_server : (s n : ℕ) (m : Four) → Mark k m → Below (shape g four some) (λ i j. (g.server i j).marks.received) s m →
+  pub raise_server : (s n : ℕ) (m : Four) → IsMark k m → Below (shape g four some) (λ i j. (g.server i j).marks.received) s m →
       Core k (shape g four some) P (tables k (with_server g s n (raised_server k (g.server s n) m))) G
   raise_server s n m mk b =
       let stable = (g.server s n).marks.stable in
@@ -137,7 +137,7 @@ module _ {k : Kind} (law : LawfulKind k) {P : Pasts} {G : Ghost} (g : GroupState
 
   -- whatever is put at the seat has a cut that its site's safe mark was below
   safe_seat : (a : ℕ) (o : Option SeatState) (next : ℕ) → a < length g.seats →
-      ((y : SeatState) → o ≡ Some y → Mark k y.cut × Covers y.cut (safe_mark k g (session_at g y.session).site)) →
+      ((y : SeatState) → o ≡ Some y → IsMark k y.cut × Covers y.cut (safe_mark k g (session_at g y.session).site)) →
       (s : ℕ) → Covers (safe_mark k (with_seat g a o next) s) (safe_mark k g s)
   safe_seat a o next l fits s =
       let at_seat : (b : ℕ) (y : SeatState) → seat_at (with_seat g a o next) b ≡ Some y → set1 (seat_at g) a o b ≡ Some y = λ b y e. sym (ap (λ (f : ℕ → Option SeatState). f b) (get_d_set g.seats a o None l)) ∙ e in
@@ -157,7 +157,7 @@ module _ {k : Kind} (law : LawfulKind k) {P : Pasts} {G : Ghost} (g : GroupState
       (safer (safe_mark k (with_seat g a None g.next_serial)) (λ s _. safe_seat a None g.next_serial l (λ y e. absurd (not_some e)) s) (closed h a))
 
   -- session i opens a snapshot at a free seat; the cut is known to it and covers a stable mark of its site
-  pub open_seat : (i a n : ℕ) (m : Four) → i < length g.sessions → a < length g.seats → n < g.partitions → Mark k m →
+  pub open_seat : (i a n : ℕ) (m : Four) → i < length g.sessions → a < length g.seats → n < g.partitions → IsMark k m →
       Covers (session_at g i).knows m → Covers m (g.server (session_at g i).site n).marks.stable → Below (shape g four some) (λ s n. (g.server s n).marks.received) (session_at g i).site m →
       Core k (shape g four some) P (tables k (with_seat g a (Some (record { session = i; serial = g.next_serial; cut = m })) (suc g.next_serial))) (remembered h g.next_serial m (session_at g i).site)
   open_seat i a n m li la ln mk kn high b =
@@ -167,5 +167,5 @@ module _ {k : Kind} (law : LawfulKind k) {P : Pasts} {G : Ghost} (g : GroupState
       subst (λ (T : Tables). Core k (shape g four some) P T (remembered h g.next_serial m s)) (sym (tables_seat k g a (Some y) (suc g.next_serial) la))
       (safer (safe_mark k (with_seat g a (Some y) (suc g.next_serial)))
       (λ s' _. safe_seat a (Some y) (suc g.next_serial) la
-      (λ z e. subst (λ (w : SeatState). Mark k w.cut × Covers w.cut (safe_mark k g (session_at g w.session).site)) (some_same e) (mk, over)) s')
+      (λ z e. subst (λ (w : SeatState). IsMark k w.cut × Covers w.cut (safe_mark k g (session_at g w.session).site)) (some_same e) (mk, over)) s')
       (seated h i a m li kn mk b))

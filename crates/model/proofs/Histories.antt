@@ -10,7 +10,7 @@ use Rattle.model.specs.Calls.{shown_of}
 use Rattle.model.specs.Events.{Put, Shown, Ticket, Told, read_by, nothing, History}
 use Rattle.model.specs.Groups.{GroupState, SeatState, session_at, seat_at}
 use Rattle.model.specs.Pasts.{site_of, reader_of, Past}
-use Rattle.model.specs.Promises.{Open, WasPut}
+use Rattle.model.specs.Promises.{Open, Opened, WasPut}
 use Rattle.model.proofs.Invariant.{Ghost, tables, name_of, Core}
 use Rattle.model.proofs.GroupEffects.{shape, with_servers}
 use Rattle.model.proofs.Showing.{Best}
@@ -35,6 +35,7 @@ pub record Frame (g : GroupState) : Type 0 where
 
 -- What the history tells of sessions and snapshots is as the group has it.
 pub record HistInv (h : History) (g : GroupState) : Type 0 where
+  pub opened_known : (i : ℕ) → Opened i h → i < length g.sessions
   pub sites_known : (i : ℕ) → i < length g.sessions → site_of h i ≡ (session_at g i).site
   pub readers_known : (a : ℕ) (y : SeatState) → seat_at g a ≡ Some y → reader_of h y.serial ≡ y.session
   pub open_known : (t : Ticket) → Open t h → (y : SeatState) × (seat_at g t.seat ≡ Some y) × (y.serial ≡ t.serial)
@@ -94,6 +95,10 @@ not_nothing : (t : Ticket) (key : ℕ) (o : Option Shown) → read_by t key o �
 not_nothing t key o e = let z : ◌≡◌ {A = ℕ} 0 1 = cc in omega arith
 
 module _ {k : Kind} {sites : ℕ} {h : History} {g : GroupState} {G : Ghost} (v : Inv k sites h g G) where
+  -- sessions stay opened where there are as many as before
+  pub still_opened : {count : ℕ} → count ≡ length g.sessions → (i : ℕ) → Opened i h → i < count
+  still_opened as_many i o = subst (λ (z : ℕ). i < z) (sym as_many) (v.hist.opened_known i o)
+
   -- a call that tells nothing, and changes servers only
   pub servers_kept : (server : ℕ → ℕ → ServerState) → ((s n : ℕ) → ServerFrame g.sites s (server s n)) →
       Core k (shape g v.frame.four v.frame.some) (Past h) (tables k (with_servers g server)) G → Kept k sites h g G nothing (with_servers g server)
@@ -103,7 +108,7 @@ module _ {k : Kind} {sites : ℕ} {h : History} {g : GroupState} {G : Ghost} (v 
       frame = record { two = v.frame.two; four = v.frame.four; some = v.frame.some; few = v.frame.few; servers = frames; sessions = v.frame.sessions; seats = v.frame.seats; serials = v.frame.serials };
       layout = v.layout;
       core = core;
-      hist = record { sites_known = v.hist.sites_known; readers_known = v.hist.readers_known; open_known = v.hist.open_known };
+      hist = record { opened_known = v.hist.opened_known; sites_known = v.hist.sites_known; readers_known = v.hist.readers_known; open_known = v.hist.open_known };
       reads = λ t key o i. ⊎_elim (λ e. absurd (not_nothing t key o e)) (v.reads t key o) i;
       written = v.written;
       logged = v.logged;

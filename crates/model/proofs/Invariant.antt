@@ -2,7 +2,7 @@
 -- that a call which leaves these alone keeps the part as it is.
 use Rattle.std.proofs.Common.{◌≡◌, ℕ, ◌%◌, ◌^◌, ◌<◌, ◌≤◌, ◌⊎◌, List, [], ◌∷◌, length, Some, Option}
 use Rattle.stamps.specs.Rows.{Four, Stamps, Covers, at, greatest}
-use Rattle.marks.specs.Kinds.{Kind}
+use Rattle.marks.specs.Kinds.{Kind, IsMark}
 use Rattle.servers.specs.Entries.{Sent, update, stamp_of}
 use Rattle.servers.specs.Laws.{In}
 use Rattle.servers.specs.Versions.{VersionState, full_mark}
@@ -10,7 +10,6 @@ use Rattle.model.specs.Calls.{safe_mark}
 use Rattle.model.specs.Events.{Put, Later}
 use Rattle.model.specs.Groups.{GroupState, SessionState, SeatState, session_at, seat_at}
 use Rattle.model.specs.Pasts.{Pasts, of_session, of_put}
-use Rattle.model.proofs.Rows.{Mark}
 
 -- How many sites and partitions there are.
 pub record Shape : Type 0 where
@@ -83,7 +82,7 @@ pub record LogInv (k : Kind) (L : Shape) (received : ℕ → ℕ → Four) (log 
   pub source : (v : VersionState) → In v log → v.source < L.sites
   pub stamped : (v : VersionState) → In v log → v.stamp ≤ last received v.source (part L v.key)
   pub small : (v : VersionState) → In v log → v.stamp < 2 ^ 63
-  pub marked : (v : VersionState) → In v log → Mark k v.mark
+  pub marked : (v : VersionState) → In v log → IsMark k v.mark
   pub above : (v : VersionState) → In v log → greatest v.mark < v.stamp
   pub unique : (v w : VersionState) → In v log → In w log → name_of v ≡ name_of w → v ≡ w
 
@@ -109,16 +108,16 @@ pub record HeldInv (k : Kind) (L : Shape) (received : ℕ → ℕ → Four) (hel
 -- The marks of the servers: marks of the kind, and below what was received.
 pub record ServerMarks (k : Kind) (L : Shape) (received reported stable : ℕ → ℕ → Four) : Type 0 where
   pub received_stamps : (s n : ℕ) → Stamps (received s n)
-  pub reported_mark : (s n : ℕ) → Mark k (reported s n)
+  pub reported_mark : (s n : ℕ) → IsMark k (reported s n)
   pub reported_below : (s n : ℕ) → Covers (received s n) (reported s n)
-  pub stable_mark : (s n : ℕ) → Mark k (stable s n)
+  pub stable_mark : (s n : ℕ) → IsMark k (stable s n)
   pub stable_below : (s n : ℕ) → Below L received s (stable s n)
 
 -- A session
 pub record SessionInv (k : Kind) (L : Shape) (received : ℕ → ℕ → Four) (x : SessionState) : Type 0 where
   pub inside : x.site < L.sites
-  pub depends_mark : Mark k x.depends
-  pub knows_mark : Mark k x.knows
+  pub depends_mark : IsMark k x.depends
+  pub knows_mark : IsMark k x.knows
   pub knows_below : Below L received x.site x.knows
 
 -- An open snapshot
@@ -131,7 +130,7 @@ pub record SeatInv (opened : ℕ) (session : ℕ → SessionState) (next : ℕ) 
 
 -- Every snapshot ever opened, closed since or not
 pub record CutInv (k : Kind) (L : Shape) (received : ℕ → ℕ → Four) (next : ℕ) (cut_of : ℕ → Four) (snap_site : ℕ → ℕ) : Type 0 where
-  pub cut_mark : (q : ℕ) → q < next → Mark k (cut_of q)
+  pub cut_mark : (q : ℕ) → q < next → IsMark k (cut_of q)
   pub cut_below : (q : ℕ) → q < next → Below L received (snap_site q) (cut_of q)
   pub cut_site : (q : ℕ) → q < next → snap_site q < L.sites
 

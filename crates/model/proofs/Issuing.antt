@@ -22,6 +22,11 @@ pub chain_le : (low high : ℕ) (xs : List Sent) → Chain low xs high → low �
 chain_le low high [] c = rw c (le_refl high)
 chain_le low high (x ∷ xs) c = let l = chain_le (stamp_of x) high xs c.1 in omega (arith, c.0)
 
+pub chain_below : (low high : ℕ) (xs : List Sent) (e : Sent) → Chain low xs high → In e xs → stamp_of e ≤ high
+chain_below low high [] e c h = absurd h
+chain_below low high (x ∷ xs) e c (inl same) = rw same (chain_le (stamp_of x) high xs c.1)
+chain_below low high (x ∷ xs) e c (inr h) = chain_below (stamp_of x) high xs e c.1 h
+
 pub chain_above : (low high : ℕ) (xs : List Sent) (e : Sent) → Chain low xs high → In e xs → low < stamp_of e
 chain_above low high [] e c h = absurd h
 chain_above low high (x ∷ xs) e c (inl same) = rw same c.0

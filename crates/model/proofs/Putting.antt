@@ -2,13 +2,13 @@
 use Rattle.std.proofs.Common.{◌≡◌, ℕ, ◌^◌, ◌<◌, ◌≤◌, ◌⊎◌, List, [], ◌∷◌, ◌++◌, sym, refl, ap, ◌∙◌, subst, inl, inr, ⊎_elim, le_trans, le_refl, arith}
 use Rattle.std.proofs.lemmas.Bool.{cases_eq}
 use Rattle.stamps.specs.Rows.{Four, Stamps, at, greatest, with_entry}
-use Rattle.marks.specs.Kinds.{Kind}
+use Rattle.marks.specs.Kinds.{Kind, IsMark}
 use Rattle.servers.specs.Entries.{update, heartbeat}
 use Rattle.servers.specs.Laws.{In}
 use Rattle.servers.specs.Versions.{VersionState}
 use Rattle.model.specs.Events.{Put}
 use Rattle.model.specs.Pasts.{Pasts}
-use Rattle.model.proofs.Rows.{Mark, stamps_entry}
+use Rattle.model.proofs.Rows.{stamps_entry}
 use Rattle.model.proofs.Lists.{in_left, in_end, in_push, set2, set2_cases}
 use Rattle.model.proofs.Invariant.{Shape, part, Ghost, Tables, name_of, last, Had, LogInv, QueueInv, StandsIn, HeldInv, Core}
 use Rattle.model.proofs.Effects.{with_entries, Rises, Sub, rises_same, grown_same, had_rises, marks_received, session_received, cuts_received, pasts_rise}
@@ -55,7 +55,7 @@ module _ {k : Kind} {L : Shape} {P : Pasts} {T : Tables} {G : Ghost} (h : Core k
 
   -- version v, made here, is kept and issued
   module _ (v : VersionState) (source : v.source ≡ s) (at_n : part L v.key ≡ n) (new : last T.received s n < v.stamp) (small : v.stamp < 2 ^ 63)
-      (marked : Mark k v.mark) (above : greatest v.mark < v.stamp) where
+      (marked : IsMark k v.mark) (above : greatest v.mark < v.stamp) where
     abbrev held' : ℕ → ℕ → List VersionState
     held' = set2 T.held s n (T.held s n ++ (v ∷ []))
 
@@ -86,8 +86,8 @@ module _ {k : Kind} {L : Shape} {P : Pasts} {T : Tables} {G : Ghost} (h : Core k
         sml w (inl e) = subst (λ (x : VersionState). x.stamp < 2 ^ 63) (sym e) small
         sml w (inr j) = h.logs.small w j
 
-        mrk : (w : VersionState) → In w (v ∷ G.log) → Mark k w.mark
-        mrk w (inl e) = subst (λ (x : VersionState). Mark k x.mark) (sym e) marked
+        mrk : (w : VersionState) → In w (v ∷ G.log) → IsMark k w.mark
+        mrk w (inl e) = subst (λ (x : VersionState). IsMark k x.mark) (sym e) marked
         mrk w (inr j) = h.logs.marked w j
 
         abv : (w : VersionState) → In w (v ∷ G.log) → greatest w.mark < w.stamp

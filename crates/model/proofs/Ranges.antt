@@ -1,17 +1,21 @@
 -- The capacities and ranges, from the invariant.
-use Rattle.std.proofs.Common.{ℕ, ◌^◌, ◌&&◌, eqb, leb, ltb, [], ◌∷◌, Ok, Err, Result, sym, subst, inl, inr}
-use Rattle.std.proofs.lemmas.Bool.{and_parts, cond_both, leb-true, ltb-true}
+use Rattle.std.proofs.Common.{◌≡◌, ℕ, ◌^◌, ◌<◌, ◌&&◌, eqb, leb, ltb, [], ◌∷◌, Ok, Err, Result, sym, ◌∙◌, subst, inl, inr, arith}
+use Rattle.std.proofs.lemmas.Bool.{and_parts, cond_both, eqb-false, leb-true, ltb-true, not-true}
 use Rattle.stamps.specs.declared.refusal.Refusal.{Refusal}
 use Rattle.stamps.specs.declared.refusal.Refusal.TheVariants.{Unlawful}
-use Rattle.stamps.specs.Rows.{Stamps}
-use Rattle.marks.specs.Kinds.{Kind}
+use Rattle.marks.specs.Kinds.{Kind, IsMark}
+use Rattle.servers.specs.Entries.{Sent, update, heartbeat}
+use Rattle.servers.specs.Laws.{In}
 use Rattle.servers.specs.Values.{Worth, gone, price, percent, part, sheet, worth_from}
-use Rattle.model.specs.Events.{Put, session_opened, wrote, got, snapshot_opened, read_by, snapshot_closed, nothing, History}
+use Rattle.servers.specs.Versions.{VersionState}
+use Rattle.model.specs.Events.{Put, wrote, History}
 use Rattle.model.specs.Groups.{GroupState}
-use Rattle.model.specs.GroupStore.{GroupBounded, InRange}
+use Rattle.model.specs.GroupStore.{EntryBounded, GroupBounded, InRange, VersionBounded}
 use Rattle.model.specs.Promises.{WasPut}
 use Rattle.model.proofs.Invariant.{Ghost}
 use Rattle.model.proofs.Histories.{Inv}
+use Rattle.model.proofs.Issuing.{chain_below}
+use Rattle.model.proofs.Rows.{stamps_at}
 
 -- the value that was made, or none
 abbrev MadeInRange : Result Worth Refusal → Type 0
@@ -29,36 +33,42 @@ made_in_range kind amount =
 -- what was put is in range
 put_in_range : (h : History) (p : Put) (x : Worth) → WasPut h p x → InRange x
 put_in_range [] p x w = absurd w
-put_in_range (session_opened i site ∷ h) p x w = put_in_range h p x w
 put_in_range (wrote i key kind amount stamp ∷ h) p x (inl w) = put_in_range h p x w
 put_in_range (wrote i key kind amount stamp ∷ h) p x (inr (_, e)) = subst MadeInRange e (made_in_range kind amount)
-put_in_range (got i key v ∷ h) p x w = put_in_range h p x w
-put_in_range (snapshot_opened i ticket ∷ h) p x w = put_in_range h p x w
-put_in_range (read_by ticket key v ∷ h) p x w = put_in_range h p x w
-put_in_range (snapshot_closed ticket ∷ h) p x w = put_in_range h p x w
-put_in_range (nothing ∷ h) p x w = put_in_range h p x w
+put_in_range (other ∷ h) p x w = put_in_range h p x w
 
-pub bounded : {k : Kind} {sites : ℕ} {h : History} {g : GroupState} {G : Ghost} → Inv k sites h g G → GroupBounded g
-bounded {k} {sites} {h} {g} {G} v = record {
-  sites = (v.frame.two, v.frame.four);
-  partitions = (v.frame.some, v.frame.few);
-  servers = λ s n ls ln. let f = v.frame.servers s n in record {
-    few_versions = f.versions;
-    few_entries = f.entries;
-    versions = λ w i. let l = (v.core.holds.had w s n i).0 in record {
-      value = put_in_range h _ w.value (v.written w l);
-      stamp = v.core.logs.small w l;
-      source = v.core.logs.source w l;
-      mark = (v.core.logs.marked w l).0;
+module _ {k : Kind} {sites : ℕ} {h : History} {g : GroupState} {G : Ghost} (v : Inv k sites h g G) where
+  logged_bounded : (w : VersionState) → In w G.log → VersionBounded k g.sites w
+  logged_bounded w l =
+      record { value = put_in_range h _ w.value (v.written w l); stamp = v.core.logs.small w l; source = v.core.logs.source w l; mark = v.core.logs.marked w l }
+
+  -- an entry under way is no later than its server's last stamp
+  entry_bounded : (s n site : ℕ) → s < g.sites → site < g.sites → (site ≡ s → ⊥) → (e : Sent) → In e ((g.server s n).waiting site) → EntryBounded k g.sites e
+  entry_bounded s n site ls lt apart (update w) i = logged_bounded w (v.core.queues.pending w s site n ls lt apart i).0
+  entry_bounded s n site ls lt apart (heartbeat stamp) i =
+      let low = chain_below _ _ ((g.server s n).waiting site) (heartbeat stamp) (v.core.queues.chain s site n ls lt apart) i in
+      let high = stamps_at (g.server s n).marks.received s (v.core.marks.received_stamps s n) in
+      omega arith
+
+  pub bounded : GroupBounded k g
+  bounded = record {
+    sites = (v.frame.two, v.frame.four);
+    partitions = (v.frame.some, v.frame.few);
+    servers = λ s n ls ln. let f = v.frame.servers s n in record {
+      few_versions = f.versions;
+      few_entries = f.entries;
+      versions = λ w i. logged_bounded w (v.core.holds.had w s n i).0;
+      entries = λ site other e i.
+          let o = and_parts (ltb site (g.server s n).sites) _ other in
+          entry_bounded s n site ls (subst (λ (z : ℕ). site < z) f.sites_is (ltb-true _ _ o.0)) (λ is. eqb-false _ _ (not-true _ o.1) (is ∙ sym f.site_is)) e i;
+      reading = f.reading;
+      received = v.core.marks.received_stamps s n;
+      reported = v.core.marks.reported_mark s n;
+      stable = v.core.marks.stable_mark s n;
     };
-    reading = f.reading;
-    received = v.core.marks.received_stamps s n;
-    reported = (v.core.marks.reported_mark s n).0;
-    stable = (v.core.marks.stable_mark s n).0;
-  };
-  few_sessions = v.frame.sessions;
-  sessions = λ i l. let x = v.core.sessions i l in record { site = x.inside; depends = x.depends_mark.0; knows = x.knows_mark.0 };
-  four_seats = v.frame.seats;
-  seats = λ a y e. let o = v.core.seats a y e in record { session = o.known; serial = o.issued; cut = subst Stamps (sym o.its_cut) (v.core.cuts.cut_mark y.serial o.issued).0 };
-  serials = v.frame.serials;
-}
+    few_sessions = v.frame.sessions;
+    sessions = λ i l. let x = v.core.sessions i l in record { site = x.inside; depends = x.depends_mark; knows = x.knows_mark };
+    four_seats = v.frame.seats;
+    seats = λ a y e. let o = v.core.seats a y e in record { session = o.known; serial = o.issued; cut = subst (IsMark k) (sym o.its_cut) (v.core.cuts.cut_mark y.serial o.issued) };
+    serials = v.frame.serials;
+  }

@@ -4,7 +4,7 @@ use Rattle.std.proofs.lemmas.Bool.{and_from, and_parts, le-leb, leb-true}
 use Rattle.std.proofs.lemmas.Bool.Decides.{nat_tests}
 use Rattle.stamps.specs.Rows.{Four, Stamps, Covers, covers, at, same, join, meet, greatest, with_entry}
 use Rattle.stamps.proofs.Rows as rows
-use Rattle.marks.specs.Kinds.{Kind, LawfulKind}
+use Rattle.marks.specs.Kinds.{Kind, IsMark, LawfulKind}
 use Rattle.servers.specs.Versions.{VersionState, full_mark}
 
 pub covers_self : (x : Four) → Covers x x
@@ -60,44 +60,40 @@ stamps_entry x i s h l = (grind (arith, nat_tests), grind (arith, nat_tests), gr
 pub stamps_at : (x : Four) (i : ℕ) → Stamps x → at x i < 2 ^ 63
 stamps_at x i h = grind (arith, nat_tests, h.0, h.1, h.2, h.3)
 
--- a row of stamps that the kind can mean
-abbrev pub Mark : Kind → Four → Type 0
-Mark k x = Stamps x × k.Means x
-
 module _ {k : Kind} (law : LawfulKind k) where
-  pub zero_mark : Mark k (same 0)
+  pub zero_mark : IsMark k (same 0)
   zero_mark = ((lit< tt, lit< tt, lit< tt, lit< tt), law.same_means 0 (lit< tt))
 
   -- the floor of a mark covers it, and is below it
-  pub floor_over : {x : Four} → Mark k x → Covers (k.floor x) x
+  pub floor_over : {x : Four} → IsMark k x → Covers (k.floor x) x
   floor_over {x} m = law.floor_greatest x x m.0 m.0 m.1 (covers_self x)
 
   pub floor_under : {x : Four} → Stamps x → Covers x (k.floor x)
   floor_under {x} s = law.floor_below x s
 
-  pub floor_mark : {x : Four} → Stamps x → Mark k (k.floor x)
+  pub floor_mark : {x : Four} → Stamps x → IsMark k (k.floor x)
   floor_mark {x} s = (stamps_below (law.floor_below x s) s, law.floor_means x s)
 
-  pub join_mark : {x y : Four} → Mark k x → Mark k y → Mark k (join x y)
+  pub join_mark : {x y : Four} → IsMark k x → IsMark k y → IsMark k (join x y)
   join_mark {x} {y} p q =
       ((omega arith, omega arith, omega arith, omega arith), law.join_means x y p.0 q.0 p.1 q.1)
 
-  pub meet_mark : {x y : Four} → Mark k x → Mark k y → Mark k (meet x y)
+  pub meet_mark : {x y : Four} → IsMark k x → IsMark k y → IsMark k (meet x y)
   meet_mark {x} {y} p q =
       ((omega arith, omega arith, omega arith, omega arith), law.meet_means x y p.0 q.0 p.1 q.1)
 
   -- the lift is below the row of that stamp everywhere, so its entries are stamps
-  pub lift_mark : (i s : ℕ) → i < 4 → s < 2 ^ 63 → Mark k (k.lift i s)
+  pub lift_mark : (i s : ℕ) → i < 4 → s < 2 ^ 63 → IsMark k (k.lift i s)
   lift_mark i s l h =
       let everywhere : s ≤ at (same s) i = grind (arith, nat_tests) in
       let low = law.lift_least i s (same s) l h (h, h, h, h) (law.same_means s h) everywhere in
       (stamps_below low (h, h, h, h), law.lift_means i s l h)
 
-  pub full_is_mark : (v : VersionState) → Mark k v.mark → v.source < 4 → v.stamp < 2 ^ 63 → Mark k (full_mark k v)
+  pub full_is_mark : (v : VersionState) → IsMark k v.mark → v.source < 4 → v.stamp < 2 ^ 63 → IsMark k (full_mark k v)
   full_is_mark v m l h = join_mark (floor_mark m.0) (lift_mark v.source v.stamp l h)
 
   -- a full mark covers the version's mark
-  pub full_mark_lem : (v : VersionState) → Mark k v.mark → Covers (full_mark k v) v.mark
+  pub full_mark_lem : (v : VersionState) → IsMark k v.mark → Covers (full_mark k v) v.mark
   full_mark_lem v m = covers_trans (join_left (k.floor v.mark) (k.lift v.source v.stamp)) (floor_over m)
 
   -- what covers a full mark has at least the version's stamp at its source

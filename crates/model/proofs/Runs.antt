@@ -82,7 +82,7 @@ begins {k} law sites partitions two four some few = record {
     cuts = record { cut_mark = λ q l. absurd (omega arith); cut_below = λ q l. absurd (omega arith); cut_site = λ q l. absurd (omega arith) };
     pasts = record { open_only = λ i p q. absurd q; of_session_lem = λ i p q. absurd q; of_put_lem = λ u p q. absurd q };
   };
-  hist = record { sites_known = λ i l. absurd (omega arith); readers_known = λ a y e. absurd (not_some (sym (free_seats a) ∙ e)); open_known = λ t o. absurd o };
+  hist = record { opened_known = λ i o. absurd o; sites_known = λ i l. absurd (omega arith); readers_known = λ a y e. absurd (not_some (sym (free_seats a) ∙ e)); open_known = λ t o. absurd o };
   reads = λ t key o i. absurd i;
   written = λ v i. absurd i;
   logged = λ p x w. absurd w;

@@ -2,11 +2,10 @@
 use Rattle.std.proofs.Common.{◌≡◌, ℕ, suc, ◌<◌, Bool, true, false, cond, eqb, List, [], ◌∷◌, ◌++◌, get_or, Some, None, Option, sym, refl, ap, ◌∙◌, subst, inl, inr, ⊎_elim}
 use Rattle.std.proofs.lemmas.Bool.{eq-eqb, eqb-true, both_ways}
 use Rattle.stamps.specs.Rows.{Four, Stamps, Covers}
-use Rattle.marks.specs.Kinds.{Kind, LawfulKind}
+use Rattle.marks.specs.Kinds.{Kind, IsMark, LawfulKind}
 use Rattle.servers.specs.Laws.{In}
 use Rattle.model.specs.Calls.{safe_mark}
 use Rattle.model.specs.Groups.{GroupState, SeatState, session_at, seat_at, stable_at, cuts_of, cuts_at}
-use Rattle.model.proofs.Rows.{Mark}
 use Rattle.model.proofs.Lists.{in_left, in_right, in_either}
 use Rattle.model.proofs.Floors.{AllStamps, common_mark, common_below, common_greatest, in_first, first_in}
 use Rattle.model.proofs.Seating.{not_some, some_same}
@@ -65,7 +64,7 @@ rows_stamps g s st cut x i = ⊎_elim
     (in_either x (stable_at g s) (cuts_at g s) i)
 
 module _ {k : Kind} (law : LawfulKind k) (g : GroupState) (s : ℕ) (st : AllStamps (safe_rows g s)) where
-  pub safe_mark_lem : Mark k (safe_mark k g s)
+  pub safe_mark_lem : IsMark k (safe_mark k g s)
   safe_mark_lem = common_mark law (safe_rows g s) st
 
   pub safe_stable : (n : ℕ) → n < g.partitions → Covers (g.server s n).marks.stable (safe_mark k g s)
@@ -75,7 +74,7 @@ module _ {k : Kind} (law : LawfulKind k) (g : GroupState) (s : ℕ) (st : AllSta
   safe_cut a y e at_s = common_below law (safe_rows g s) st y.cut (in_right y.cut (stable_at g s) (cuts_at g s) (cut_in g s g.seats a y e at_s))
 
 -- it covers every mark that the stable marks and the open cuts cover
-pub safe_covers : {k : Kind} (law : LawfulKind k) (g : GroupState) (s : ℕ) → AllStamps (safe_rows g s) → (m : Four) → Mark k m →
+pub safe_covers : {k : Kind} (law : LawfulKind k) (g : GroupState) (s : ℕ) → AllStamps (safe_rows g s) → (m : Four) → IsMark k m →
     ((n : ℕ) → n < g.partitions → Covers (g.server s n).marks.stable m) →
     ((a : ℕ) (y : SeatState) → seat_at g a ≡ Some y → (session_at g y.session).site ≡ s → Covers y.cut m) → Covers (safe_mark k g s) m
 safe_covers law g s st m mk stables cuts = common_greatest law (safe_rows g s) st m mk (λ x i. ⊎_elim

@@ -1,11 +1,11 @@
 -- New sessions, and opening and closing snapshots.
 use Rattle.std.proofs.Common.{◌≡◌, ℕ, suc, ◌<◌, Some, None, Option, sym, ap, ◌∙◌, subst, le_refl, arith}
 use Rattle.stamps.specs.Rows.{Four, Covers}
-use Rattle.marks.specs.Kinds.{Kind, LawfulKind}
+use Rattle.marks.specs.Kinds.{Kind, IsMark, LawfulKind}
 use Rattle.model.specs.Events.{Put}
 use Rattle.model.specs.Groups.{SessionState, SeatState, new_session}
 use Rattle.model.specs.Pasts.{Pasts, of_session}
-use Rattle.model.proofs.Rows.{Mark, covers_zero, zero_mark}
+use Rattle.model.proofs.Rows.{covers_zero, zero_mark}
 use Rattle.model.proofs.Lists.{set1, set1_cases, set1_here, set1_other}
 use Rattle.model.proofs.Invariant.{Shape, Ghost, Tables, Below, SessionInv, SeatInv, Reached, Core}
 use Rattle.model.proofs.Effects.{with_sessions, with_seats}
@@ -35,7 +35,7 @@ module _ {k : Kind} {L : Shape} {P : Pasts} {T : Tables} {G : Ghost} (h : Core k
   remembered q m s = record { log = G.log; cut_of = set1 G.cut_of q m; snap_site = set1 G.snap_site q s }
 
   -- session i opens a snapshot of cut m, which it knows
-  pub seated : (i a : ℕ) (m : Four) → i < T.opened → Covers (T.session i).knows m → Mark k m → Below L T.received (T.session i).site m →
+  pub seated : (i a : ℕ) (m : Four) → i < T.opened → Covers (T.session i).knows m → IsMark k m → Below L T.received (T.session i).site m →
       Core k L P (with_seats T (set1 T.seat a (Some (record { session = i; serial = T.next; cut = m }))) (suc T.next)) (remembered T.next m (T.session i).site)
   seated i a m l kn mk b = record {
     logs = h.logs;
@@ -45,7 +45,7 @@ module _ {k : Kind} {L : Shape} {P : Pasts} {T : Tables} {G : Ghost} (h : Core k
     sessions = h.sessions;
     seats = seat';
     cuts = record {
-      cut_mark = λ q lq. at_q q lq (λ s c. Mark k c) mk (h.cuts.cut_mark q);
+      cut_mark = λ q lq. at_q q lq (λ s c. IsMark k c) mk (h.cuts.cut_mark q);
       cut_below = λ q lq. at_q q lq (λ s c. Below L T.received s c) b (h.cuts.cut_below q);
       cut_site = λ q lq. at_q q lq (λ s c. s < L.sites) (h.sessions i l).inside (h.cuts.cut_site q);
     };

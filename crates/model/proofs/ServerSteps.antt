@@ -7,7 +7,7 @@ use Rattle.stamps.specs.declared.refusal.Refusal.TheVariants.{NotInLayout, Unlaw
 use Rattle.stamps.specs.Clocks.{Allowed, LawfulRule}
 use Rattle.stamps.specs.Rows.{Four, Covers, Stamps, at, with_entry}
 use Rattle.marks.specs.CommonFloors.{common_floor}
-use Rattle.marks.specs.Kinds.{Kind, LawfulKind}
+use Rattle.marks.specs.Kinds.{Kind, IsMark, LawfulKind}
 use Rattle.servers.specs.Entries.{Sent, update, heartbeat, stamp_of}
 use Rattle.servers.specs.Laws.{In}
 use Rattle.servers.specs.Others.{is_other}
@@ -21,7 +21,7 @@ use Rattle.model.specs.Calls.{has_server, server_left, on_server, change_server,
 use Rattle.model.specs.Events.{Done, nothing, History}
 use Rattle.model.specs.Groups.{GroupState, with_server, reported_at}
 use Rattle.model.specs.Pasts.{Past}
-use Rattle.model.proofs.Rows.{Mark, covers_self, covers_trans, stamps_at}
+use Rattle.model.proofs.Rows.{covers_self, covers_trans, stamps_at}
 use Rattle.model.proofs.Lists.{set2, set2_cases, set2_field, set2_other, set2_same}
 use Rattle.model.proofs.Floors.{common_mark, common_below, in_first, first_in}
 use Rattle.model.proofs.Invariant.{Shape, Ghost, Tables, tables, last, Below, Core}
@@ -207,7 +207,7 @@ module _ {k : Kind} (law : LawfulKind k) {sites : ℕ} {h : History} {g : GroupS
         (ap (λ (f : ℕ → ℕ → ℕ → List Sent). set2 f from n (taken_by sender.waiting to)) (set2_field (λ (y : ServerState). y.waiting) g.server to n x ∙ set2_same _ to n _ same-waits))))
         (safer (safe_mark k (with_server (with_server g to n x) from n (handing sender to)))
         (λ s' _. safe_servers law g v.frame.four v.frame.some v.core (set2 (set2 g.server to n x) from n (handing sender to))
-        (λ i m. subst (Mark k) (sym (stable_same i m)) (v.core.marks.stable_mark i m))
+        (λ i m. subst (IsMark k) (sym (stable_same i m)) (v.core.marks.stable_mark i m))
         (λ i m. subst (λ (z : Four). Covers z (g.server i m).marks.stable) (sym (stable_same i m)) (covers_self (g.server i m).marks.stable)) s')
         core)
       where
@@ -272,11 +272,11 @@ module _ {k : Kind} (law : LawfulKind k) {sites : ℕ} {h : History} {g : GroupS
       go (in_layout g from n p.0).0 (in_layout g to n q.0).0 (eqb-false from to (not-true _ q.1)) ((g.server from n).waiting to) refl)
       (λ _. refused_kept v)
     where
-      -- the taker's own site is never the sender's
+      -- the sender's site is another one of the taker's layout, or the entry is refused
       other : (e : Sent) → (from ≡ to → ⊥) → Kept k sites h g G nothing (took_left g from to n (taking_other (g.server to n) from e)).1 → Kept k sites h g G nothing (took_left g from to n (taking (g.server to n) from e)).1
       other e apart kept =
-          cond_both {A = Result Done Refusal × ServerState} (eqb from (g.server to n).site) (Err NotInLayout, g.server to n) (taking_other (g.server to n) from e) (λ r. Kept k sites h g G nothing (took_left g from to n r).1)
-          (λ _. refused_kept v) (λ _. kept)
+          cond_both {A = Result Done Refusal × ServerState} (is_other (g.server to n).site (g.server to n).sites from) (taking_other (g.server to n) from e) (Err NotInLayout, g.server to n) (λ r. Kept k sites h g G nothing (took_left g from to n r).1)
+          (λ _. kept) (λ _. refused_kept v)
 
       go : from < g.sites → to < g.sites → (from ≡ to → ⊥) → (q : List Sent) → (g.server from n).waiting to ≡ q → Kept k sites h g G nothing (delivered g from to n (first q)).1
       go lf lt apart [] waiting = refused_kept v

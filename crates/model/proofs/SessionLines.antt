@@ -5,7 +5,7 @@ use Rattle.stamps.specs.declared.refusal.Refusal.{Refusal}
 use Rattle.stamps.specs.declared.refusal.Refusal.TheVariants.{NoSession, TableFull, OutboxFull}
 use Rattle.stamps.specs.Clocks.{Allowed, LawfulRule}
 use Rattle.stamps.specs.Rows.{Four, Covers, at, greatest, join}
-use Rattle.marks.specs.Kinds.{Kind, LawfulKind}
+use Rattle.marks.specs.Kinds.{Kind, IsMark, LawfulKind}
 use Rattle.servers.specs.Laws.{In, IsLatest, Passes}
 use Rattle.servers.specs.Outboxes.{outbox_full}
 use Rattle.servers.specs.Servers.{Rule, ServerState, last_of, latest_visible, putting_at, sees}
@@ -19,7 +19,7 @@ use Rattle.model.specs.Groups.{GroupState, SessionState, first_of, partition_of,
 use Rattle.model.specs.GroupStore.{held_at, joined, may_see}
 use Rattle.model.specs.Pasts.{of_session, of_put, Past, site_of}
 use Rattle.model.specs.Promises.{ShowsAsLate, WasPut}
-use Rattle.model.proofs.Rows.{Mark, covers_trans, covers_from, at_greatest, floor_mark, floor_over, full_stamp, join_left, join_right, join_mark, stamps_at}
+use Rattle.model.proofs.Rows.{covers_trans, covers_from, at_greatest, floor_mark, floor_over, full_stamp, join_left, join_right, join_mark, stamps_at}
 use Rattle.model.proofs.Lists.{in_either, in_left, in_right}
 use Rattle.model.proofs.Floors.{first_in, in_first}
 use Rattle.model.proofs.Invariant.{Shape, Ghost, name_of, part, last, StandsIn, Reached}
@@ -101,7 +101,7 @@ module _ {k : Kind} (law : LawfulKind k) {sites : ℕ} {h : History} {g : GroupS
     abbrev knows : Four
     knows = (session_at g i).knows
 
-    stable_mark : Mark k (join (k.floor (g.server s n).marks.stable) (k.floor (session_at g i).knows))
+    stable_mark : IsMark k (join (k.floor (g.server s n).marks.stable) (k.floor (session_at g i).knows))
     stable_mark = join_mark law (floor_mark law (v.core.marks.stable_mark s n).0) (floor_mark law (v.core.sessions i l).knows_mark.0)
 
     -- a version whose full mark is below the stable mark or below what the session knows is seen

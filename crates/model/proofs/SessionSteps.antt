@@ -6,7 +6,7 @@ use Rattle.stamps.specs.declared.refusal.Refusal.{Refusal}
 use Rattle.stamps.specs.declared.refusal.Refusal.TheVariants.{NotInLayout, NoSession, NoneFree, TableFull, OutboxFull}
 use Rattle.stamps.specs.Clocks.{Allowed, LawfulRule}
 use Rattle.stamps.specs.Rows.{Four, Covers, at, greatest, join, with_entry}
-use Rattle.marks.specs.Kinds.{Kind, LawfulKind}
+use Rattle.marks.specs.Kinds.{Kind, IsMark, LawfulKind}
 use Rattle.servers.specs.Entries.{update}
 use Rattle.servers.specs.Laws.{In, IsLatest}
 use Rattle.servers.specs.Outboxes.{outbox_full}
@@ -19,8 +19,8 @@ use Rattle.model.specs.Calls.{opened_session, on_session, put_left, put_worth, d
 use Rattle.model.specs.Events.{Put, AsLate, Shown, Ticket, open_session, put, get, told, session_opened, wrote, got, read_by, History}
 use Rattle.model.specs.Groups.{GroupState, SessionState, new_session, partition_of, session_at, with_server, with_sessions, with_session}
 use Rattle.model.specs.Pasts.{Pasts, of_session, Past, seeing, writing, site_of}
-use Rattle.model.specs.Promises.{WasPut}
-use Rattle.model.proofs.Rows.{Mark, covers_self, covers_trans, covers_true, covers_at, entry_rises, floor_mark, floor_over, floor_under, full_is_mark, full_mark_lem, full_stamp, join_left, join_right, join_least, join_mark, stamps_at}
+use Rattle.model.specs.Promises.{Opened, WasPut}
+use Rattle.model.proofs.Rows.{covers_self, covers_trans, covers_true, covers_at, entry_rises, floor_mark, floor_over, floor_under, full_is_mark, full_mark_lem, full_stamp, join_left, join_right, join_least, join_mark, stamps_at}
 use Rattle.model.proofs.Lists.{set1, set2, set1_cases, set2_cases, set1_other, set2_here, set2_same, get_d_push}
 use Rattle.model.proofs.Invariant.{Shape, Ghost, tables, name_of, part, last, Had, Below, Reached, Core}
 use Rattle.model.proofs.Effects.{Rises, part_small, raised, reached_rises, with_entries}
@@ -31,7 +31,7 @@ use Rattle.model.proofs.Writing.{written_too}
 use Rattle.model.proofs.Views.{session_here, session_sites}
 use Rattle.model.proofs.GroupEffects.{shape, place_server, raise_server, grow_session, enrol_session}
 use Rattle.model.proofs.Showing.{Best}
-use Rattle.model.proofs.Histories.{Frame, Inv, Grows, grows_same, read_grows, Kept, refused_kept}
+use Rattle.model.proofs.Histories.{Frame, Inv, Grows, grows_same, read_grows, Kept, refused_kept, still_opened}
 use Rattle.model.proofs.ServerSteps.{server_frames, issued_received, issued_waits, issued_entries, last_is}
 
 not_opened : (t : Ticket) (key i site : ℕ) (o : Option Shown) → read_by t key o ≡ session_opened i site → ⊥
@@ -47,13 +47,13 @@ not_got t key i j o p e = let z : ◌≡◌ {A = ℕ} 0 1 = cc in omega arith
 pub see_core : {k : Kind} (law : LawfulKind k) {P : Pasts} {G : Ghost} (g : GroupState) (four : g.sites ≤ 4) (some : 1 ≤ g.partitions) (core : Core k (shape g four some) P (tables k g) G)
     (i : ℕ) (w : VersionState) → i < length g.sessions → In w G.log → Had (shape g four some) (λ s n. (g.server s n).marks.received) (session_at g i).site w →
     Clear law (shape g four some) (λ s n. (g.server s n).marks.stable) (session_at g i).site (session_at g i).knows w →
-    Core k (shape g four some) (seeing P i (name_of w)) (tables k (with_session g i (depending k (session_at g i) (join (k.floor (session_at g i).depends) (full_mark k w))))) G
+    Core k (shape g four some) (seeing P i (name_of w)) (tables k (with_session g i (depending (session_at g i) (join (k.floor (session_at g i).depends) (full_mark k w))))) G
 see_core {k} law {P} {G} g four some core i w l logged' had clear =
     let L = shape g four some in
     let x = session_at g i in
     let inv = core.sessions i l in
     let full = full_mark k w in
-    let x' = depending k x (join (k.floor x.depends) full) in
+    let x' = depending x (join (k.floor x.depends) full) in
     let is_full = full_is_mark law w (core.logs.marked w logged') (let s = core.logs.source w logged' in omega arith) (core.logs.small w logged') in
     let grown = grow_session law g four some core i x' l refl (covers_trans (join_left (k.floor x.depends) full) (floor_over law inv.depends_mark)) (covers_self x.knows)
     (record { inside = inv.inside; depends_mark = join_mark law (floor_mark law inv.depends_mark.0) is_full; knows_mark = inv.knows_mark; knows_below = inv.knows_below }) in
@@ -98,7 +98,12 @@ module _ {k : Kind} (law : LawfulKind k) {sites : ℕ} {h : History} {g : GroupS
           frame = record { two = v.frame.two; four = v.frame.four; some = v.frame.some; few = v.frame.few; servers = v.frame.servers; sessions = omega (arith, length-append g.sessions (new_session site ∷ [])); seats = v.frame.seats; serials = v.frame.serials };
           layout = v.layout;
           core = enrol_session law g v.frame.four v.frame.some v.core site inside;
-          hist = record { sites_known = known; readers_known = v.hist.readers_known; open_known = v.hist.open_known };
+          hist = record {
+            opened_known = λ j o. let more = length-append g.sessions (new_session site ∷ []) in ⊎_elim (λ e. omega arith) (λ before. let l = v.hist.opened_known j before in omega arith) o;
+            sites_known = known;
+            readers_known = v.hist.readers_known;
+            open_known = v.hist.open_known;
+          };
           reads = λ t key o i. ⊎_elim (λ e. absurd (not_opened t key count site o e)) (v.reads t key o) i;
           written = v.written;
           logged = v.logged;
@@ -132,7 +137,7 @@ module _ {k : Kind} (law : LawfulKind k) {sites : ℕ} {h : History} {g : GroupS
     server' t = raised_server k (issuing (keeping srv (ver t)) (update (ver t))) (k.floor x.knows)
 
     abbrev session' : ℕ → SessionState
-    session' t = depending k x (full_mark k (ver t))
+    session' t = depending x (full_mark k (ver t))
 
     abbrev g1 : ℕ → GroupState
     g1 t = with_server g s n (server' t)
@@ -148,7 +153,7 @@ module _ {k : Kind} (law : LawfulKind k) {sites : ℕ} {h : History} {g : GroupS
       site_is : srv.site ≡ s
       site_is = (v.frame.servers s n).site_is
 
-      marked : Mark k (k.floor x.depends)
+      marked : IsMark k (k.floor x.depends)
       marked = floor_mark law (v.core.sessions i l).depends_mark.0
 
       new' : last (λ a b. (g.server a b).marks.received) s n < t
@@ -160,7 +165,7 @@ module _ {k : Kind} (law : LawfulKind k) {sites : ℕ} {h : History} {g : GroupS
       stable' : Four
       stable' = join (k.floor srv.marks.stable) (k.floor x.knows)
 
-      stable_marked : Mark k (join (k.floor srv.marks.stable) (k.floor x.knows))
+      stable_marked : IsMark k (join (k.floor srv.marks.stable) (k.floor x.knows))
       stable_marked = join_mark law (floor_mark law (v.core.marks.stable_mark s n).0) (floor_mark law (v.core.sessions i l).knows_mark.0)
 
       stable_up : Covers (join (k.floor srv.marks.stable) (k.floor x.knows)) srv.marks.stable
@@ -280,6 +285,7 @@ module _ {k : Kind} (law : LawfulKind k) {sites : ℕ} {h : History} {g : GroupS
           layout = v.layout;
           core = subst (λ (p : Put). Core k L (writing (Past h) i p) (tables k (g2 t)) G') named core3;
           hist = record {
+            opened_known = still_opened v (length-set g.sessions i (session' t));
             sites_known = λ j lj. v.hist.sites_known j (subst (λ (z : ℕ). j < z) (length-set g.sessions i (session' t)) lj) ∙ sym (session_sites (g1 t) i (session' t) l refl j);
             readers_known = v.hist.readers_known;
             open_known = v.hist.open_known;
@@ -367,6 +373,9 @@ module _ {k : Kind} (law : LawfulKind k) {sites : ℕ} {h : History} {g : GroupS
       serials = v.frame.serials;
     }
 
+    pub learn_opened : (j : ℕ) → Opened j h → j < length learnt.sessions
+    learn_opened = still_opened v (length-set g.sessions i known)
+
     pub learn_sites : (j : ℕ) → j < length learnt.sessions → site_of h j ≡ (session_at (learning k g i (session_at g i) n) j).site
     learn_sites j lj =
         v.hist.sites_known j (subst (λ (z : ℕ). j < z) (length-set g.sessions i known) lj)
@@ -415,7 +424,7 @@ module _ {k : Kind} (law : LawfulKind k) {sites : ℕ} {h : History} {g : GroupS
           };
           layout = v.layout;
           core = learn_core i (partition_of g key) l;
-          hist = record { sites_known = learn_sites i (partition_of g key) l; readers_known = v.hist.readers_known; open_known = v.hist.open_known };
+          hist = record { opened_known = learn_opened i (partition_of g key) l; sites_known = learn_sites i (partition_of g key) l; readers_known = v.hist.readers_known; open_known = v.hist.open_known };
           reads = λ t j o m. ⊎_elim (λ e. absurd (not_got t j i key o None e)) (v.reads t j o) m;
           written = v.written;
           logged = v.logged;
@@ -439,6 +448,7 @@ module _ {k : Kind} (law : LawfulKind k) {sites : ℕ} {h : History} {g : GroupS
           core = subst (λ (p : Put). Core k L (seeing (Past h) i p) (tables k (with_session g1 i x2)) G) (ap (λ (z : ℕ). record { key = z; stamp = w.stamp; source = w.source }) best.1.0)
               (see_core law g1 v.frame.four v.frame.some core1 i w l1 logged' had clear);
           hist = record {
+            opened_known = λ j o. subst (λ (z : ℕ). j < z) (sym (length-set g1.sessions i x2)) (learn_opened i (partition_of g key) l j o);
             sites_known = λ j lj. learn_sites i (partition_of g key) l j (subst (λ (z : ℕ). j < z) (length-set g1.sessions i x2) lj) ∙ sym (session_sites g1 i x2 l1 refl j);
             readers_known = v.hist.readers_known;
             open_known = v.hist.open_known;
@@ -451,7 +461,7 @@ module _ {k : Kind} (law : LawfulKind k) {sites : ℕ} {h : History} {g : GroupS
       }
         where
           x2 : SessionState
-          x2 = depending k (session_at g1 i) (join (k.floor (session_at g1 i).depends) (full_mark k w))
+          x2 = depending (session_at g1 i) (join (k.floor (session_at g1 i).depends) (full_mark k w))
 
           core1 : Core k L (Past h) (tables k g1) G
           core1 = learn_core i (partition_of g key) l
@@ -474,8 +484,8 @@ module _ {k : Kind} (law : LawfulKind k) {sites : ℕ} {h : History} {g : GroupS
           had : Had L (λ a b. (g1.server a b).marks.received) (session_at g1 i).site w
           had = subst (λ (z : SessionState). Had L (λ a b. (g1.server a b).marks.received) z.site w) (sym here) had_there.2
 
-          stable_mark : Mark k heard'.marks.stable
-          stable_mark = subst (λ (z : ServerState). Mark k z.marks.stable) (set2_here g.server y.site n heard') (core1.marks.stable_mark y.site n)
+          stable_mark : IsMark k heard'.marks.stable
+          stable_mark = subst (λ (z : ServerState). IsMark k z.marks.stable) (set2_here g.server y.site n heard') (core1.marks.stable_mark y.site n)
 
           clear' : (eqb w.source heard'.site ≡ true) ⊎ (covered k (k.floor heard'.marks.stable) w ≡ true) → Clear law L (λ a b. (g1.server a b).marks.stable) y.site heard'.marks.stable w
           clear' (inl e) =

@@ -4,7 +4,7 @@ use Rattle.std.proofs.lemmas.Bool.{cond_both, eqb-true, leb-false, ltb-true}
 use Rattle.stamps.specs.declared.refusal.Refusal.{Refusal}
 use Rattle.stamps.specs.declared.refusal.Refusal.TheVariants.{NotInLayout, NoSession, NoneFree, NotOpen, End}
 use Rattle.stamps.specs.Rows.{Four, Covers, join}
-use Rattle.marks.specs.Kinds.{Kind, LawfulKind}
+use Rattle.marks.specs.Kinds.{Kind, IsMark, LawfulKind}
 use Rattle.servers.specs.Laws.{In, IsLatest}
 use Rattle.servers.specs.Servers.{ServerState, raised as raised_server, latest_covered}
 use Rattle.servers.specs.Tables.{covered}
@@ -15,7 +15,7 @@ use Rattle.model.specs.Events.{Put, Shown, put_shown, Ticket, open_snapshot, rea
 use Rattle.model.specs.Groups.{GroupState, SessionState, SeatState, partition_of, session_at, seat_at, with_server, with_session, with_seat, lowest_free}
 use Rattle.model.specs.Pasts.{Past, seeing, reader_of}
 use Rattle.model.specs.Promises.{Open}
-use Rattle.model.proofs.Rows.{Mark, covers_self, covers_trans, covers_true, floor_mark, floor_under}
+use Rattle.model.proofs.Rows.{covers_self, covers_trans, covers_true, floor_mark, floor_under}
 use Rattle.model.proofs.Lists.{set1, set1_cases, set1_here, set1_other, set2_here, get_d_set}
 use Rattle.model.proofs.Invariant.{Shape, Ghost, tables, part, Had, Below, SeatInv, Core}
 use Rattle.model.proofs.Seating.{some_same, not_some}
@@ -23,9 +23,9 @@ use Rattle.model.proofs.Safe.{safe_cut}
 use Rattle.model.proofs.Views.{lowest_free_lem, seat_inside, session_sites}
 use Rattle.model.proofs.GroupEffects.{shape, raise_server, open_seat, close_seat, safe_rows_lem}
 use Rattle.model.proofs.Showing.{Best, best_read}
-use Rattle.model.proofs.Histories.{ServerFrame, ReadRight, shown_option, Inv, Grows, grows_same, read_grows, Kept, refused_kept}
+use Rattle.model.proofs.Histories.{ServerFrame, ReadRight, shown_option, Inv, Grows, grows_same, read_grows, Kept, refused_kept, still_opened}
 use Rattle.model.proofs.ServerSteps.{server_frames}
-use Rattle.model.proofs.SessionSteps.{see_core, learn_core, learn_frame, learn_sites, learn_session}
+use Rattle.model.proofs.SessionSteps.{see_core, learn_core, learn_frame, learn_opened, learn_sites, learn_session}
 
 not_closed : (t u : Ticket) (key : ℕ) (o : Option Shown) → read_by t key o ≡ snapshot_closed u → ⊥
 not_closed t u key o e = let z : ◌≡◌ {A = ℕ} 0 1 = cc in omega arith
@@ -82,6 +82,7 @@ module _ {k : Kind} (law : LawfulKind k) {sites : ℕ} {h : History} {g : GroupS
               layout = v.layout;
               core = close_seat law g v.frame.four v.frame.some v.core t.seat la;
               hist = record {
+                opened_known = v.hist.opened_known;
                 sites_known = v.hist.sites_known;
                 readers_known = λ b z e. set1_cases (seat_at g) t.seat None b (λ o. o ≡ Some z → reader_of h z.serial ≡ z.session) (λ _ f. absurd (not_some f)) (λ _ f. v.hist.readers_known b z f) (seats' la b z e);
                 open_known = λ u op. still y there same la u op;
@@ -156,7 +157,7 @@ module _ {k : Kind} (law : LawfulKind k) {sites : ℕ} {h : History} {g : GroupS
           };
           layout = v.layout;
           core = open_seat law g1 v.frame.four v.frame.some core1 i (lowest_free g.seats) n m li1 la ln marked known high low;
-          hist = record { sites_known = learn_sites law v i n li; readers_known = readers'; open_known = open' };
+          hist = record { opened_known = learn_opened law v i n li; sites_known = learn_sites law v i n li; readers_known = readers'; open_known = open' };
           reads = λ t key o j. ⊎_elim (λ e. absurd (not_snapshot t ticket key i o e)) (λ j'. read_grows grows t key o (v.reads t key o j')) j;
           written = v.written;
           logged = v.logged;
@@ -182,8 +183,8 @@ module _ {k : Kind} (law : LawfulKind k) {sites : ℕ} {h : History} {g : GroupS
           at_server : g1.server (session_at g i).site n ≡ heard
           at_server = set2_here g.server (session_at g i).site n heard
 
-          marked : Mark k m
-          marked = subst (λ (z : ServerState). Mark k z.marks.stable) at_server (core1.marks.stable_mark (session_at g i).site n)
+          marked : IsMark k m
+          marked = subst (λ (z : ServerState). IsMark k z.marks.stable) at_server (core1.marks.stable_mark (session_at g i).site n)
 
           known : Covers (session_at g1 i).knows m
           known = subst (λ (z : SessionState). Covers z.knows m) (sym here) (covers_self m)
@@ -238,8 +239,8 @@ module _ {k : Kind} (law : LawfulKind k) {sites : ℕ} {h : History} {g : GroupS
     seat : SeatInv (length g.sessions) (session_at g) g.next_serial G.cut_of G.snap_site y
     seat = v.core.seats a y there
 
-    pub cut_mark : Mark k y.cut
-    cut_mark = subst (Mark k) (sym seat.its_cut) (v.core.cuts.cut_mark y.serial seat.issued)
+    pub cut_mark : IsMark k y.cut
+    cut_mark = subst (IsMark k) (sym seat.its_cut) (v.core.cuts.cut_mark y.serial seat.issued)
 
     pub cut_below : Below L (λ i j. (g.server i j).marks.received) s y.cut
     cut_below = subst (λ (z : ℕ). Below L (λ i j. (g.server i j).marks.received) z y.cut) (sym seat.its_site)
@@ -286,7 +287,7 @@ module _ {k : Kind} (law : LawfulKind k) {sites : ℕ} {h : History} {g : GroupS
         frame = record { two = v.frame.two; four = v.frame.four; some = v.frame.some; few = v.frame.few; servers = frames; sessions = v.frame.sessions; seats = v.frame.seats; serials = v.frame.serials };
         layout = v.layout;
         core = core1;
-        hist = record { sites_known = v.hist.sites_known; readers_known = v.hist.readers_known; open_known = v.hist.open_known };
+        hist = record { opened_known = v.hist.opened_known; sites_known = v.hist.sites_known; readers_known = v.hist.readers_known; open_known = v.hist.open_known };
         reads = reads_right t same None best;
         written = v.written;
         logged = v.logged;
@@ -311,6 +312,7 @@ module _ {k : Kind} (law : LawfulKind k) {sites : ℕ} {h : History} {g : GroupS
             (subst (λ (p : Put). Core k L (seeing (Past h) y.session p) (tables k (with_session g1 y.session x2)) G) (ap (λ (z : ℕ). record { key = z; stamp = w.stamp; source = w.source }) best.1.0)
             (see_core law g1 v.frame.four v.frame.some core1 y.session w seat.known had_there.0 had_there.2 (inr clear)));
         hist = record {
+          opened_known = still_opened v (length-set g.sessions y.session x2);
           sites_known = λ j lj. v.hist.sites_known j (subst (λ (z : ℕ). j < z) (length-set g.sessions y.session x2) lj) ∙ sym (session_sites g1 y.session x2 seat.known refl j);
           readers_known = v.hist.readers_known;
           open_known = v.hist.open_known;
@@ -323,7 +325,7 @@ module _ {k : Kind} (law : LawfulKind k) {sites : ℕ} {h : History} {g : GroupS
     }
       where
         x2 : SessionState
-        x2 = depending k (session_at g y.session) (join (k.floor (session_at g y.session).depends) (full_mark k w))
+        x2 = depending (session_at g y.session) (join (k.floor (session_at g y.session).depends) (full_mark k w))
 
         had_there : In w G.log × (part L w.key ≡ n) × Had L (λ i j. (g1.server i j).marks.received) s w
         had_there = core1.holds.had w s n (subst (λ (z : ServerState). In w z.held) (sym (set2_here g.server s n server')) best.0)

@@ -30,6 +30,7 @@ promises {k} law rule clock sites r G v = record {
   put_new = put_new law v rule clock;
   get_honest = λ i key u e. let l = get_open law v rule i key (Some u) e in shows_put law v i key l u (get_found law v rule i key l (Some u) e);
   read_honest = read_honest law v rule;
+  get_answers = λ i key o. (_, get_answer law v i key (v.hist.opened_known i o) rule);
   get_none = λ i key e w held.
       let l = get_open law v rule i key None e in
       none_seen law v i key l (get_found law v rule i key l None e) w (subst (λ (z : ℕ). In w (held_at r.state z)) (v.hist.sites_known i l) held);

@@ -50,15 +50,16 @@ opened_session g site =
     (cond (nat_le 8 (length g.sessions)) (Err NoneFree, g) (Ok (length g.sessions), with_sessions g (g.sessions ++ (new_session site ∷ []))))
     (Err NotInLayout, g)
 
--- put: the session depends from then on on the new version
-abbrev pub depending : Kind → SessionState → Four → SessionState
-depending k x depends = record { site = x.site; depends = depends; knows = x.knows }
+-- a session depends on this mark from then on
+abbrev pub depending : SessionState → Four → SessionState
+depending x depends = record x { depends = depends }
 
+-- put: the session depends from then on on the new version
 abbrev pub put_left : Kind → GroupState → ℕ → SessionState → ℕ → Worth → Result ℕ Refusal × ServerState → Result ℕ Refusal × GroupState
 put_left k g i x key value (Err why, s) = (Err why, g)
 put_left k g i x key value (Ok stamp, s) =
     let v = put_version (g.server x.site (partition_of g key)) key value (k.floor x.depends) stamp in
-    (Ok stamp, with_session (with_server g x.site (partition_of g key) s) i (depending k x (full_mark k v)))
+    (Ok stamp, with_session (with_server g x.site (partition_of g key) s) i (depending x (full_mark k v)))
 
 abbrev pub put_worth : Rule → Kind → GroupState → ℕ → ℕ → SessionState → Result Worth Refusal → Result ℕ Refusal × GroupState
 put_worth rule k g i key x (Err why) = (Err why, g)
@@ -73,7 +74,7 @@ abbrev pub showing : Kind → GroupState → ℕ → Option VersionState → Res
 showing k g i None = (Ok None, g)
 showing k g i (Some v) =
     let x = session_at g i in
-    (Ok (Some (shown_of v)), with_session g i (depending k x (join (k.floor x.depends) (full_mark k v))))
+    (Ok (Some (shown_of v)), with_session g i (depending x (join (k.floor x.depends) (full_mark k v))))
 
 -- a session's server hears what the session knows, and the session knows its stable mark from then on
 abbrev pub hearing : Kind → GroupState → SessionState → ℕ → ServerState
@@ -82,7 +83,7 @@ hearing k g x partition = raised k (g.server x.site partition) (k.floor x.knows)
 abbrev pub learning : Kind → GroupState → ℕ → SessionState → ℕ → GroupState
 learning k g i x partition =
     let s = hearing k g x partition in
-    with_session (with_server g x.site partition s) i (record { site = x.site; depends = x.depends; knows = s.marks.stable })
+    with_session (with_server g x.site partition s) i (record x { knows = s.marks.stable })
 
 -- open snapshot: the seat is the lowest free one
 abbrev pub snapshot_opened_at : Kind → GroupState → ℕ → SessionState → ℕ → ℕ → Result Ticket Refusal × GroupState

@@ -1,5 +1,5 @@
 -- Calls, their answers, and what a call and its answer tell. Nothing here says how the store works.
-use Rattle.std.specs.Prelude.{◌≡◌, ℕ, ◌<◌, ◌≤◌, List, [], ◌∷◌, ℤ, Ok, Err, Option, Result}
+use Rattle.std.specs.Prelude.{◌≡◌, ℕ, ◌<◌, ◌≤◌, List, [], ◌∷◌, ℤ, Ok, Option, Result}
 use Rattle.stamps.specs.declared.refusal.Refusal.{Refusal}
 use Rattle.servers.specs.Values.{Worth}
 
@@ -48,25 +48,22 @@ pub data Call : Type 0 where
   tidy : (site partition : ℕ) → Call
   lead : (site partition : ℕ) → Call
 
--- The answer to a call, if it is not refused: a session's number, a stamp, none or what is shown, a ticket, how many
--- versions were dropped, how far the last stamp is ahead of the clock; or only that it is done.
+-- the answer of a call that has only been done
 abbrev pub Done : Type 0
 Done = Unit {0}
 
+-- The answer to a call that is not refused: a session's number, a stamp, none or what is shown, a ticket, how many versions
+-- were dropped, how far the last stamp is ahead of the clock; or only that it is done.
 abbrev pub Answered : Call → Type 0
 Answered (open_session site) = ℕ
-Answered (tell site partition time) = Done
 Answered (put session key kind amount) = ℕ
 Answered (get session key) = Option Shown
 Answered (heartbeat site partition) = ℕ
-Answered (deliver from to partition) = Done
-Answered (report site partition) = Done
-Answered (stabilise site partition) = Done
 Answered (open_snapshot session partition) = Ticket
 Answered (read ticket key) = Option Shown
-Answered (close ticket) = Done
 Answered (tidy site partition) = ℕ
 Answered (lead site partition) = ℤ
+Answered call = Done
 
 abbrev pub Answer : Call → Type 0
 Answer call = Result (Answered call) Refusal
@@ -88,29 +85,17 @@ pub data Told : Type 0 where
 
 abbrev pub told : (call : Call) → Answer call → Told
 told (open_session site) (Ok session) = session_opened session site
-told (open_session site) (Err why) = nothing
-told (tell site partition time) answer = nothing
 told (put session key kind amount) (Ok stamp) = wrote session key kind amount stamp
-told (put session key kind amount) (Err why) = nothing
 told (get session key) (Ok v) = got session key v
-told (get session key) (Err why) = nothing
-told (heartbeat site partition) answer = nothing
-told (deliver from to partition) answer = nothing
-told (report site partition) answer = nothing
-told (stabilise site partition) answer = nothing
 told (open_snapshot session partition) (Ok ticket) = snapshot_opened session ticket
-told (open_snapshot session partition) (Err why) = nothing
 told (read ticket key) (Ok v) = read_by ticket key v
-told (read ticket key) (Err why) = nothing
-told (close ticket) (Ok d) = snapshot_closed ticket
-told (close ticket) (Err why) = nothing
-told (tidy site partition) answer = nothing
-told (lead site partition) answer = nothing
+told (close ticket) (Ok done) = snapshot_closed ticket
+told call answer = nothing
 
--- A history is the list of calls with their answers, the newest first; what it tells is the list of what they tell.
+-- A history, by what its calls and their answers told, the newest first.
 abbrev pub History : Type 0
 History = List Told
 
-abbrev pub tale : List Event → History
-tale [] = []
-tale (e ∷ es) = told e.call e.answer ∷ tale es
+abbrev pub history_of : List Event → History
+history_of [] = []
+history_of (e ∷ es) = told e.call e.answer ∷ history_of es

@@ -1,7 +1,9 @@
 -- A group as a store, and the theorem about it.
-use Rattle.std.specs.Prelude.{◌≡◌, ℕ, ◌^◌, ◌<◌, ◌≤◌, Bool, List, [], ◌∷◌, ◌++◌, length, Some}
+use Rattle.std.specs.Prelude.{◌≡◌, ℕ, ◌^◌, ◌<◌, ◌≤◌, Bool, true, List, [], ◌∷◌, ◌++◌, length, Some}
 use Rattle.stamps.specs.Rows.{Stamps}
-use Rattle.marks.specs.Kinds.{Kind}
+use Rattle.marks.specs.Kinds.{Kind, IsMark}
+use Rattle.servers.specs.Entries.{Sent, update, heartbeat}
+use Rattle.servers.specs.Others.{is_other}
 use Rattle.servers.specs.Servers.{Rule, ServerState, sees}
 use Rattle.servers.specs.Laws.{In}
 use Rattle.servers.specs.Values.{Worth, gone, price, percent, part, sheet}
@@ -11,11 +13,12 @@ use Rattle.model.specs.Groups.{GroupState, SessionState, SeatState, made, partit
 use Rattle.model.specs.Promises.{KeepsPromises}
 use Rattle.model.specs.Stores.{Store}
 
--- the versions of all servers of a site
+-- one list after the other
 abbrev pub joined : {A : Type 0} → List (List A) → List A
 joined [] = []
 joined (xs ∷ xss) = xs ++ joined xss
 
+-- the versions of all servers of a site
 abbrev pub held_at : GroupState → ℕ → List VersionState
 held_at g site = joined (first_of (λ n. (g.server site n).held) g.partitions)
 
@@ -35,47 +38,54 @@ InRange (percent hundredths) = hundredths ≤ 10000
 InRange part = Unit {0}
 InRange sheet = Unit {0}
 
-pub record VersionBounded (sites : ℕ) (v : VersionState) : Type 0 where
+-- Of a key nothing is asked here: its 16 bits are its type's in the code, and a call may be made with any.
+pub record VersionBounded (k : Kind) (sites : ℕ) (v : VersionState) : Type 0 where
   pub value : InRange v.value
   pub stamp : v.stamp < 2 ^ 63
   pub source : v.source < sites
-  pub mark : Stamps v.mark
+  pub mark : IsMark k v.mark
 
--- a server holds at most 32 versions and keeps at most 16 entries for a site
-pub record ServerBounded (sites : ℕ) (s : ServerState) : Type 0 where
+abbrev pub EntryBounded : Kind → ℕ → Sent → Type 0
+EntryBounded k sites (update v) = VersionBounded k sites v
+EntryBounded k sites (heartbeat stamp) = stamp < 2 ^ 63
+
+-- A server holds at most 32 versions and keeps at most 16 entries for a site. What it keeps of a mark is the row of a mark
+-- of the kind, so the kind's floor gives the mark back.
+pub record ServerBounded (k : Kind) (sites : ℕ) (s : ServerState) : Type 0 where
   pub few_versions : length s.held ≤ 32
   pub few_entries : (site : ℕ) → length (s.waiting site) ≤ 16
-  pub versions : (v : VersionState) → In v s.held → VersionBounded sites v
+  pub versions : (v : VersionState) → In v s.held → VersionBounded k sites v
+  pub entries : (site : ℕ) → is_other s.site s.sites site ≡ true → (e : Sent) → In e (s.waiting site) → EntryBounded k sites e
   pub reading : s.reading < 2 ^ 47
   pub received : Stamps s.marks.received
-  pub reported : Stamps s.marks.reported
-  pub stable : Stamps s.marks.stable
+  pub reported : IsMark k s.marks.reported
+  pub stable : IsMark k s.marks.stable
 
-pub record SessionBounded (sites : ℕ) (x : SessionState) : Type 0 where
+pub record SessionBounded (k : Kind) (sites : ℕ) (x : SessionState) : Type 0 where
   pub site : x.site < sites
-  pub depends : Stamps x.depends
-  pub knows : Stamps x.knows
+  pub depends : IsMark k x.depends
+  pub knows : IsMark k x.knows
 
-pub record SeatBounded (sessions next : ℕ) (y : SeatState) : Type 0 where
+pub record SeatBounded (k : Kind) (sessions next : ℕ) (y : SeatState) : Type 0 where
   pub session : y.session < sessions
   pub serial : y.serial < next
-  pub cut : Stamps y.cut
+  pub cut : IsMark k y.cut
 
 -- A group has 2 to 4 sites, 1 to 4 partitions, at most 8 sessions, and 4 seats. A serial number that was given is below the
 -- next one, so below 2^32 - 1.
-pub record GroupBounded (g : GroupState) : Type 0 where
+pub record GroupBounded (k : Kind) (g : GroupState) : Type 0 where
   pub sites : (2 ≤ g.sites) × (g.sites ≤ 4)
   pub partitions : (1 ≤ g.partitions) × (g.partitions ≤ 4)
-  pub servers : (site partition : ℕ) → site < g.sites → partition < g.partitions → ServerBounded g.sites (g.server site partition)
+  pub servers : (site partition : ℕ) → site < g.sites → partition < g.partitions → ServerBounded k g.sites (g.server site partition)
   pub few_sessions : length g.sessions ≤ 8
-  pub sessions : (i : ℕ) → i < length g.sessions → SessionBounded g.sites (session_at g i)
+  pub sessions : (i : ℕ) → i < length g.sessions → SessionBounded k g.sites (session_at g i)
   pub four_seats : length g.seats ≡ 4
-  pub seats : (a : ℕ) (y : SeatState) → seat_at g a ≡ Some y → SeatBounded (length g.sessions) g.next_serial y
+  pub seats : (a : ℕ) (y : SeatState) → seat_at g a ≡ Some y → SeatBounded k (length g.sessions) g.next_serial y
   pub serials : g.next_serial < 2 ^ 32
 
 abbrev pub group_store : Rule → Kind → ℕ → Store
 group_store rule k sites =
-    record { State = GroupState; sites = sites; ask = asked rule k; Quiet = AllTaken; holds = held_at; may_see = may_see k; Bounded = GroupBounded }
+    record { State = GroupState; sites = sites; ask = asked rule k; Quiet = AllTaken; holds = held_at; may_see = may_see k; Bounded = GroupBounded k }
 
 -- A group with this clock rule and this kind of mark keeps the promises from its making on.
 abbrev pub GroupKeepsPromises : Rule → Kind → ℕ → ℕ → Type 0

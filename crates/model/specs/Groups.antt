@@ -48,21 +48,20 @@ session_at g i = slice_index_or g.sessions i (new_session 0)
 abbrev pub seat_at : GroupState → ℕ → Option SeatState
 seat_at g a = slice_index_or g.seats a None
 
--- one server, one session or one seat replaced
+-- one server or one session replaced
 abbrev pub with_server : GroupState → ℕ → ℕ → ServerState → GroupState
 with_server g site partition s =
-    record { sites = g.sites; partitions = g.partitions; server = λ i n. cond (i == site && n == partition) s (g.server i n); sessions = g.sessions; seats = g.seats; next_serial = g.next_serial }
+    record g { server = λ i n. cond (i == site && n == partition) s (g.server i n) }
 
 abbrev pub with_sessions : GroupState → List SessionState → GroupState
-with_sessions g sessions =
-    record { sites = g.sites; partitions = g.partitions; server = g.server; sessions = sessions; seats = g.seats; next_serial = g.next_serial }
+with_sessions g sessions = record g { sessions = sessions }
 
 abbrev pub with_session : GroupState → ℕ → SessionState → GroupState
 with_session g i x = with_sessions g (slice_set g.sessions i x)
 
+-- one seat replaced, and the next serial number from then on
 abbrev pub with_seat : GroupState → ℕ → Option SeatState → ℕ → GroupState
-with_seat g a y next =
-    record { sites = g.sites; partitions = g.partitions; server = g.server; sessions = g.sessions; seats = slice_set g.seats a y; next_serial = next }
+with_seat g a y next = record g { seats = slice_set g.seats a y; next_serial = next }
 
 -- the lowest free seat; their number if none is free
 abbrev pub lowest_free : List (Option SeatState) → ℕ

@@ -1,28 +1,18 @@
 -- The past of a session and of a put, read from calls and answers only.
 use Rattle.std.specs.Prelude.{◌≡◌, ℕ, cond, ◌⊎◌, [], ◌∷◌, Some, None, Option, ◌==◌}
-use Rattle.model.specs.Events.{Put, Shown, put_shown, session_opened, wrote, got, snapshot_opened, read_by, snapshot_closed, nothing, History}
+use Rattle.model.specs.Events.{Put, Shown, put_shown, session_opened, wrote, got, snapshot_opened, read_by, History}
 
 -- the site of a session: where it was opened
 abbrev pub site_of : History → ℕ → ℕ
 site_of [] session = 0
 site_of (session_opened i site ∷ h) session = cond (session == i) site (site_of h session)
-site_of (wrote i key kind amount stamp ∷ h) session = site_of h session
-site_of (got i key v ∷ h) session = site_of h session
-site_of (snapshot_opened i ticket ∷ h) session = site_of h session
-site_of (read_by ticket key v ∷ h) session = site_of h session
-site_of (snapshot_closed ticket ∷ h) session = site_of h session
-site_of (nothing ∷ h) session = site_of h session
+site_of (other ∷ h) session = site_of h session
 
 -- the session that opened the snapshot of a serial number
 abbrev pub reader_of : History → ℕ → ℕ
 reader_of [] serial = 0
-reader_of (session_opened i site ∷ h) serial = reader_of h serial
-reader_of (wrote i key kind amount stamp ∷ h) serial = reader_of h serial
-reader_of (got i key v ∷ h) serial = reader_of h serial
 reader_of (snapshot_opened i ticket ∷ h) serial = cond (serial == ticket.serial) i (reader_of h serial)
-reader_of (read_by ticket key v ∷ h) serial = reader_of h serial
-reader_of (snapshot_closed ticket ∷ h) serial = reader_of h serial
-reader_of (nothing ∷ h) serial = reader_of h serial
+reader_of (other ∷ h) serial = reader_of h serial
 
 -- Whose past: a session's, or that of a put.
 pub data Who : Type 0 where
@@ -50,10 +40,7 @@ seeing_shown P i key (Some v) = seeing P i (put_shown key v)
 
 abbrev pub Past : History → Pasts
 Past [] w p = ⊥
-Past (session_opened i site ∷ h) w p = Past h w p
 Past (wrote i key kind amount stamp ∷ h) w p = writing (Past h) i (record { key = key; stamp = stamp; source = site_of h i }) w p
 Past (got i key v ∷ h) w p = seeing_shown (Past h) i key v w p
-Past (snapshot_opened i ticket ∷ h) w p = Past h w p
 Past (read_by ticket key v ∷ h) w p = seeing_shown (Past h) (reader_of h ticket.serial) key v w p
-Past (snapshot_closed ticket ∷ h) w p = Past h w p
-Past (nothing ∷ h) w p = Past h w p
+Past (other ∷ h) w p = Past h w p

@@ -1,45 +1,41 @@
 -- The promises, for every store and every run of it.
-use Rattle.std.specs.Prelude.{◌≡◌, ℕ, ◌<◌, Bool, true, ◌⊎◌, List, [], ◌∷◌, Some, None, Ok, Err, Option, Result, ◌≢◌}
+use Rattle.std.specs.Prelude.{◌≡◌, ℕ, ◌<◌, Bool, true, ◌⊎◌, List, [], ◌∷◌, Some, None, Ok, Option, Result, ◌≢◌}
 use Rattle.stamps.specs.declared.refusal.Refusal.{Refusal}
 use Rattle.servers.specs.Laws.{In, IsLatest}
 use Rattle.servers.specs.Values.{Worth, worth_from}
 use Rattle.servers.specs.Versions.{VersionState}
-use Rattle.model.specs.Events.{Put, AsLate, Later, Shown, put_shown, Ticket, Call, put, get, open_snapshot, read, session_opened, wrote, got, snapshot_opened, read_by, snapshot_closed, nothing, History}
+use Rattle.model.specs.Events.{Put, AsLate, Later, Shown, put_shown, Ticket, Call, put, get, open_snapshot, read, session_opened, wrote, snapshot_opened, read_by, snapshot_closed, History}
 use Rattle.model.specs.Pasts.{site_of, of_session, of_put, Past}
 use Rattle.model.specs.Stores.{Store, Run, answer, then, then_all, history}
 
 -- What is shown of a key is put p or a later one; none is older than every put, and so is a refusal.
 abbrev pub ShowsAsLate : ℕ → Result (Option Shown) Refusal → Put → Type 0
 ShowsAsLate key (Ok (Some v)) p = AsLate (put_shown key v) p
-ShowsAsLate key (Ok None) p = ⊥
-ShowsAsLate key (Err why) p = ⊥
+ShowsAsLate key other p = ⊥
 
 -- Two answers to a read that are the same, and no refusal.
 abbrev pub SameAnswer : Result (Option Shown) Refusal → Result (Option Shown) Refusal → Type 0
 SameAnswer a b = (o : Option Shown) × (a ≡ Ok o) × (b ≡ Ok o)
 
+-- A session was opened.
+abbrev pub Opened : ℕ → History → Type 0
+Opened session [] = ⊥
+Opened session (session_opened i site ∷ h) = (session ≡ i) ⊎ Opened session h
+Opened session (other ∷ h) = Opened session h
+
 -- A snapshot was opened, and not closed since.
 abbrev pub Open : Ticket → History → Type 0
 Open ticket [] = ⊥
-Open ticket (session_opened i site ∷ h) = Open ticket h
-Open ticket (wrote i key kind amount stamp ∷ h) = Open ticket h
-Open ticket (got i key v ∷ h) = Open ticket h
-Open ticket (snapshot_opened i other ∷ h) = (ticket ≡ other) ⊎ Open ticket h
-Open ticket (read_by other key v ∷ h) = Open ticket h
-Open ticket (snapshot_closed other ∷ h) = (ticket ≢ other) × Open ticket h
-Open ticket (nothing ∷ h) = Open ticket h
+Open ticket (snapshot_opened i opened ∷ h) = (ticket ≡ opened) ⊎ Open ticket h
+Open ticket (snapshot_closed closed ∷ h) = (ticket ≢ closed) × Open ticket h
+Open ticket (other ∷ h) = Open ticket h
 
 -- The history has a done put of this name and this value. Its source is the site of its session then.
 abbrev pub WasPut : History → Put → Worth → Type 0
 WasPut [] p x = ⊥
-WasPut (session_opened i site ∷ h) p x = WasPut h p x
 WasPut (wrote i key kind amount stamp ∷ h) p x =
     WasPut h p x ⊎ ((p ≡ record { key = key; stamp = stamp; source = site_of h i }) × (worth_from kind amount ≡ Ok x))
-WasPut (got i key v ∷ h) p x = WasPut h p x
-WasPut (snapshot_opened i ticket ∷ h) p x = WasPut h p x
-WasPut (read_by ticket key v ∷ h) p x = WasPut h p x
-WasPut (snapshot_closed ticket ∷ h) p x = WasPut h p x
-WasPut (nothing ∷ h) p x = WasPut h p x
+WasPut (other ∷ h) p x = WasPut h p x
 
 -- a version of any kind
 abbrev pub any_version : VersionState → Bool
@@ -71,7 +67,9 @@ module _ (S : Store) where
     -- what is shown of a key was put, with that key, value, stamp and source
     pub get_honest : (session key : ℕ) (v : Shown) → answer S r (get session key) ≡ Ok (Some v) → WasPut (history S r) (put_shown key v) v.value
     pub read_honest : (ticket : Ticket) (key : ℕ) (v : Shown) → answer S r (read ticket key) ≡ Ok (Some v) → WasPut (history S r) (put_shown key v) v.value
-    -- a get answers none exactly when the site holds no version of that key that the session may see
+    -- A get of a session that was opened is answered: none exactly when the site holds no version of that key that the
+    -- session may see.
+    pub get_answers : (session key : ℕ) → Opened session (history S r) → (o : Option Shown) × (answer S r (get session key) ≡ Ok o)
     pub get_none : (session key : ℕ) → answer S r (get session key) ≡ Ok None →
         (v : VersionState) → In v (S.holds r.state (site_of (history S r) session)) → v.key ≡ key → S.may_see r.state session v ≢ true
     pub get_some : (session key : ℕ) (v : Shown) → answer S r (get session key) ≡ Ok (Some v) →

@@ -1,7 +1,7 @@
 -- What the promises need to know of a store: what it answers to a next call, and a few questions about its state.
 use Rattle.std.specs.Prelude.{ℕ, Bool, List, [], ◌∷◌}
 use Rattle.servers.specs.Versions.{VersionState}
-use Rattle.model.specs.Events.{Call, Answer, Event, History, tale}
+use Rattle.model.specs.Events.{Call, Answer, Event, History, history_of}
 
 pub record Store : Type 1 where
   pub State : Type 0
@@ -35,4 +35,4 @@ module _ (S : Store) where
   then_all r (call ∷ calls) = then_all (then r call) calls
 
   abbrev pub history : Run S → History
-  history r = tale r.events
+  history r = history_of r.events
