@@ -8,7 +8,7 @@ use Rattle.servers.specs.declared.server.Server.{Server}
 use Rattle.stamps.specs.Rows.{Four, four}
 use Rattle.stamps.specs.declared.row.Row.{Row}
 use Rattle.marks.specs.CommonFloors.{numbers}
-use Rattle.model.specs.Groups.{first_of}
+use Rattle.model.specs.Groups.{tabulate}
 use Rattle.group.specs.Groups.{RowsOf}
 
 pub numbers_push : (xs : List Row) (x : Row) → numbers (xs ++ x ∷ []) ≡ numbers xs ++ four x.entries ∷ []
@@ -19,9 +19,9 @@ pub length_numbers : (xs : List Row) → length (numbers xs) ≡ length xs
 length_numbers [] = refl
 length_numbers (x ∷ xs) = ap suc (length_numbers xs)
 
-pub length_first : {A : Type 0} (f : ℕ → A) (n : ℕ) → length (first_of f n) ≡ n
+pub length_first : {A : Type 0} (f : ℕ → A) (n : ℕ) → length (tabulate f n) ≡ n
 length_first f zero = refl
-length_first f (suc n) = omega (arith, length-append (first_of f n) (f n ∷ []), length_first f n)
+length_first f (suc n) = omega (arith, length-append (tabulate f n) (f n ∷ []), length_first f n)
 
 -- a push where there is room
 pub pushed_room : {T : Type 0} (most : ℕ) (xs ys : List T) (x : T) (r : Result (Unit {0}) Full) → (r, ys) ≡ pushed most xs x → length xs < most → ys ≡ xs ++ x ∷ []
@@ -49,11 +49,11 @@ rows_more gives server n xs ys s row r e room before at given =
 -- the rows as numbers, where the function gives what a server has
 pub rows_lem : {C K Mark : Type 0} (gives : Server C K Mark → Row → Type 0) (seen : ServerState → Four) (server : ℕ → ServerState) (n : ℕ) (rows : List Row)
     → ((s : Server C K Mark) (row : Row) → gives s row → four row.entries ≡ seen (server_view s))
-    → RowsOf gives server n rows → numbers rows ≡ first_of (λ i. seen (server i)) n
+    → RowsOf gives server n rows → numbers rows ≡ tabulate (λ i. seen (server i)) n
 rows_lem gives seen server zero rows sees e = ap numbers e
 rows_lem gives seen server (suc n) rows sees (before, s, row, e, h, at, given) =
     ap numbers e ∙ numbers_push before row ∙ ap (λ t. t ++ four row.entries ∷ []) (rows_lem gives seen server n before sees h)
-    ∙ ap (λ t. first_of (λ i. seen (server i)) n ++ t ∷ []) (sees s row given ∙ ap seen at)
+    ∙ ap (λ t. tabulate (λ i. seen (server i)) n ++ t ∷ []) (sees s row given ∙ ap seen at)
 
 -- what is said of each server, of the one that a loop is at
 pub item_of : {C K Mark : Type 0} {f : ℕ → ServerState} (servers : List (Server C K Mark)) (i : ℕ) (x : Server C K Mark)

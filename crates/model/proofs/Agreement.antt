@@ -18,7 +18,7 @@ use Rattle.model.proofs.SessionLines.{held_from, held_in}
 
 module _ {k : Kind} {sites : ℕ} {h : History} {g : GroupState} {G : Ghost} (v : Inv k sites h g G) (quiet : AllTaken g) where
   abbrev L : Shape
-  L = shape g v.frame.four v.frame.some
+  L = shape g v.frame.layout.few_sites v.frame.layout.some_partitions
 
   -- every site has every version
   had : (w : VersionState) (s : ℕ) → s < g.sites → In w G.log → Had L (λ a b. (g.server a b).marks.received) s w

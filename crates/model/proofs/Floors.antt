@@ -7,7 +7,7 @@ use Rattle.stamps.proofs.Rows.{meet_left, meet_right, meet_greatest}
 use Rattle.marks.specs.Kinds.{Kind, IsMark, LawfulKind}
 use Rattle.servers.specs.Laws.{In}
 use Rattle.marks.specs.CommonFloors.{common_floor}
-use Rattle.model.specs.Groups.{first_of}
+use Rattle.model.specs.Groups.{tabulate}
 use Rattle.model.proofs.Rows.{covers_trans, floor_mark, floor_under, meet_mark}
 use Rattle.model.proofs.Lists.{in_left, in_end, in_push}
 
@@ -35,16 +35,16 @@ module _ {k : Kind} (law : LawfulKind k) where
 
 -- ---- the first values of a function
 
-pub in_first : {A : Type 0} (f : ℕ → A) (n i : ℕ) → i < n → In (f i) (first_of f n)
+pub in_first : {A : Type 0} (f : ℕ → A) (n i : ℕ) → i < n → In (f i) (tabulate f n)
 in_first f ℕ.zero i l = absurd (omega arith)
 in_first f (suc n) i l = ⊎_elim
-    (λ e. subst (λ (x : ℕ). In (f x) (first_of f n ++ (f n ∷ []))) (sym e) (in_end (first_of f n) (f n)))
-    (λ ne. in_left (f i) (first_of f n) (f n ∷ []) (in_first f n i (omega arith)))
+    (λ e. subst (λ (x : ℕ). In (f x) (tabulate f n ++ (f n ∷ []))) (sym e) (in_end (tabulate f n) (f n)))
+    (λ ne. in_left (f i) (tabulate f n) (f n ∷ []) (in_first f n i (omega arith)))
     (cases_eq i n)
 
-pub first_in : {A : Type 0} (f : ℕ → A) (n : ℕ) (x : A) → In x (first_of f n) → (i : ℕ) × (i < n) × (x ≡ f i)
+pub first_in : {A : Type 0} (f : ℕ → A) (n : ℕ) (x : A) → In x (tabulate f n) → (i : ℕ) × (i < n) × (x ≡ f i)
 first_in f ℕ.zero x h = absurd h
 first_in f (suc n) x h = ⊎_elim
     (λ i. let r = first_in f n x i in let l = r.1 in (r.0, omega arith, r.2))
     (λ e. (n, omega arith, e))
-    (in_push x (first_of f n) (f n) h)
+    (in_push x (tabulate f n) (f n) h)

@@ -9,6 +9,7 @@ use Rattle.servers.specs.Versions.{VersionState}
 use Rattle.model.specs.Calls.{shown_of}
 use Rattle.model.specs.Events.{Put, Shown, Ticket, Told, read_by, nothing, History}
 use Rattle.model.specs.Groups.{GroupState, SeatState, session_at, seat_at}
+use Rattle.model.specs.GroupStore.{LayoutBounded}
 use Rattle.model.specs.Pasts.{site_of, reader_of, Past}
 use Rattle.model.specs.Promises.{Open, Opened, WasPut}
 use Rattle.model.proofs.Invariant.{Ghost, tables, name_of, Core}
@@ -24,10 +25,7 @@ pub record ServerFrame (sites s : ℕ) (x : ServerState) : Type 0 where
   pub reading : x.reading < 2 ^ 47
 
 pub record Frame (g : GroupState) : Type 0 where
-  pub two : 2 ≤ g.sites
-  pub four : g.sites ≤ 4
-  pub some : 1 ≤ g.partitions
-  pub few : g.partitions ≤ 4
+  pub layout : LayoutBounded g.sites g.partitions
   pub servers : (s n : ℕ) → ServerFrame g.sites s (g.server s n)
   pub sessions : length g.sessions ≤ 8
   pub seats : length g.seats ≡ 4
@@ -54,7 +52,7 @@ pub record ReadRight (k : Kind) (G : Ghost) (next : ℕ) (t : Ticket) (key : ℕ
 pub record Inv (k : Kind) (sites : ℕ) (h : History) (g : GroupState) (G : Ghost) : Type 0 where
   pub frame : Frame g
   pub layout : g.sites ≡ sites
-  pub core : Core k (shape g frame.four frame.some) (Past h) (tables k g) G
+  pub core : Core k (shape g frame.layout.few_sites frame.layout.some_partitions) (Past h) (tables k g) G
   pub hist : HistInv h g
   pub reads : (t : Ticket) (key : ℕ) (o : Option Shown) → In (read_by t key o) h → ReadRight k G g.next_serial t key o
   -- the log is what was put
@@ -101,11 +99,11 @@ module _ {k : Kind} {sites : ℕ} {h : History} {g : GroupState} {G : Ghost} (v 
 
   -- a call that tells nothing, and changes servers only
   pub servers_kept : (server : ℕ → ℕ → ServerState) → ((s n : ℕ) → ServerFrame g.sites s (server s n)) →
-      Core k (shape g v.frame.four v.frame.some) (Past h) (tables k (with_servers g server)) G → Kept k sites h g G nothing (with_servers g server)
+      Core k (shape g v.frame.layout.few_sites v.frame.layout.some_partitions) (Past h) (tables k (with_servers g server)) G → Kept k sites h g G nothing (with_servers g server)
   servers_kept server frames core = record {
     ghost = G;
     inv = record {
-      frame = record { two = v.frame.two; four = v.frame.four; some = v.frame.some; few = v.frame.few; servers = frames; sessions = v.frame.sessions; seats = v.frame.seats; serials = v.frame.serials };
+      frame = record { layout = v.frame.layout; servers = frames; sessions = v.frame.sessions; seats = v.frame.seats; serials = v.frame.serials };
       layout = v.layout;
       core = core;
       hist = record { opened_known = v.hist.opened_known; sites_known = v.hist.sites_known; readers_known = v.hist.readers_known; open_known = v.hist.open_known };

@@ -52,8 +52,7 @@ module _ {k : Kind} {sites : ℕ} {h : History} {g : GroupState} {G : Ghost} (v 
 
   pub bounded : GroupBounded k g
   bounded = record {
-    sites = (v.frame.two, v.frame.four);
-    partitions = (v.frame.some, v.frame.few);
+    layout = v.frame.layout;
     servers = λ s n ls ln. let f = v.frame.servers s n in record {
       few_versions = f.versions;
       few_entries = f.entries;

@@ -1,5 +1,5 @@
 -- The invariant of the group as it is made, and after any calls.
-use Rattle.std.proofs.Common.{◌≡◌, ℕ, ◌^◌, ◌<◌, ◌≤◌, ltb, List, [], ◌∷◌, get_or, ℤ, None, Ok, Err, Option, Result, sym, refl, ◌∙◌, arith, lit<, lit≤}
+use Rattle.std.proofs.Common.{◌≡◌, ℕ, ◌^◌, ◌<◌, ltb, List, [], ◌∷◌, get_or, ℤ, None, Ok, Err, Option, Result, sym, refl, ◌∙◌, arith, lit<, lit≤}
 use Rattle.std.proofs.lemmas.Bool.{cond_both}
 use Rattle.stamps.specs.declared.refusal.Refusal.{Refusal}
 use Rattle.stamps.specs.declared.refusal.Refusal.TheVariants.{NotInLayout}
@@ -12,7 +12,7 @@ use Rattle.servers.proofs.RowEntries.{by_site}
 use Rattle.model.specs.Calls.{asked, has_server}
 use Rattle.model.specs.Events.{Call, open_session, tell, put, get, heartbeat, deliver, report, stabilise, open_snapshot, read, close, tidy, lead, told, nothing, History}
 use Rattle.model.specs.Groups.{GroupState, SeatState, made}
-use Rattle.model.specs.GroupStore.{group_store}
+use Rattle.model.specs.GroupStore.{LayoutBounded, group_store}
 use Rattle.model.specs.Stores.{Run, then, then_all, history}
 use Rattle.model.proofs.Rows.{covers_zero, zero_mark}
 use Rattle.model.proofs.Invariant.{Ghost}
@@ -53,13 +53,10 @@ first_stamps sites = (one 0, one 1, one 2, one 3)
 free_seats : (a : ℕ) → get_or {A = Option SeatState} (None ∷ None ∷ None ∷ None ∷ []) a None ≡ None
 free_seats = by_site (λ a. get_or {A = Option SeatState} (None ∷ None ∷ None ∷ None ∷ []) a None ≡ None) refl refl refl refl (λ m. refl)
 
-pub begins : {k : Kind} → LawfulKind k → (sites partitions : ℕ) → 2 ≤ sites → sites ≤ 4 → 1 ≤ partitions → partitions ≤ 4 → Inv k sites [] (made sites partitions) no_ghost
-begins {k} law sites partitions two four some few = record {
+pub begins : {k : Kind} → LawfulKind k → (sites partitions : ℕ) → LayoutBounded sites partitions → Inv k sites [] (made sites partitions) no_ghost
+begins {k} law sites partitions layout = record {
   frame = record {
-    two = two;
-    four = four;
-    some = some;
-    few = few;
+    layout = layout;
     servers = λ s n. record { site_is = refl; sites_is = refl; versions = lit≤ tt; entries = λ site. lit≤ tt; reading = lit< tt };
     sessions = lit≤ tt;
     seats = refl;

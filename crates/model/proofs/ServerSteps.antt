@@ -12,7 +12,7 @@ use Rattle.servers.specs.Entries.{Sent, update, heartbeat, stamp_of}
 use Rattle.servers.specs.Laws.{In}
 use Rattle.servers.specs.Others.{is_other}
 use Rattle.servers.specs.Outboxes.{Queues, first, has16, issued, next_for, outbox_full, taken_by}
-use Rattle.servers.specs.Servers.{Rule, MarksState, ServerState, told, told_reading, beaten, beaten_at, last_of, issuing, keeping, receiving as receiving_server, taking, taking_other, handing, raised, reporting, tidied_up}
+use Rattle.servers.specs.Servers.{Rule, MarksState, ServerState, telling, telling_checked, heartbeating, heartbeating_at, last_of, issuing, keeping, receiving as receiving_server, taking, taking_other, handing, raised, reporting, tidied_up}
 use Rattle.servers.specs.Tables.{table_full}
 use Rattle.servers.specs.Versions.{VersionState}
 use Rattle.servers.proofs.RowEntries.{by_site}
@@ -27,7 +27,7 @@ use Rattle.model.proofs.Floors.{common_mark, common_below, in_first, first_in}
 use Rattle.model.proofs.Invariant.{Shape, Ghost, Tables, tables, last, Below, Core}
 use Rattle.model.proofs.Effects.{safer, with_entries}
 use Rattle.model.proofs.Issuing.{receiving, sending}
-use Rattle.model.proofs.Putting.{beaten as beaten_too}
+use Rattle.model.proofs.Putting.{beaten}
 use Rattle.model.proofs.Taking.{handed_over, taken_beat, taken_update}
 use Rattle.model.proofs.Views.{tables_server}
 use Rattle.model.proofs.GroupEffects.{shape, safe_servers, place_server, raise_server, report_server, same_server, tidy_server}
@@ -62,7 +62,7 @@ in_layout g s n e = let p = and_parts (ltb s g.sites) (ltb n g.partitions) e in 
 
 module _ {k : Kind} (law : LawfulKind k) {sites : ℕ} {h : History} {g : GroupState} {G : Ghost} (v : Inv k sites h g G) where
   abbrev L : Shape
-  L = shape g v.frame.four v.frame.some
+  L = shape g v.frame.layout.few_sites v.frame.layout.some_partitions
 
   -- frames with one server replaced
   pub server_frames : (s n : ℕ) (x : ServerState) → ServerFrame g.sites s x → (s' n' : ℕ) → ServerFrame g.sites s' (set2 g.server s n x s' n')
@@ -85,12 +85,12 @@ module _ {k : Kind} (law : LawfulKind k) {sites : ℕ} {h : History} {g : GroupS
       let f = v.frame.servers s n in
       record { site_is = f.site_is; sites_is = f.sites_is; versions = f.versions; entries = f.entries; reading = f.reading }
 
-  pub keeps_tell : (s n time : ℕ) → Kept k sites h g G nothing (on_server g s n (λ x. told x time)).1
-  keeps_tell s n time = on_kept s n (λ x. told x time) (λ _ _.
-      cond_both {A = Result ℕ Refusal} (ltb time (2 ^ 47)) (Ok time) (Err Unlawful) (λ c. Kept k sites h g G nothing (server_left g s n (told_reading (g.server s n) c)).1)
+  pub keeps_tell : (s n time : ℕ) → Kept k sites h g G nothing (on_server g s n (λ x. telling x time)).1
+  keeps_tell s n time = on_kept s n (λ x. telling x time) (λ _ _.
+      cond_both {A = Result ℕ Refusal} (ltb time (2 ^ 47)) (Ok time) (Err Unlawful) (λ c. Kept k sites h g G nothing (server_left g s n (telling_checked (g.server s n) c)).1)
       (λ small. cond_both {A = Result Done Refusal × ServerState} (ltb time (g.server s n).reading) (Err ReadingBehind, g.server s n) (Ok tt, new) (λ r. Kept k sites h g G nothing (server_left g s n r).1)
       (λ _. refused_kept v)
-      (λ _. one_kept s n new (frame (ltb-true _ _ small)) (same_server law g v.frame.four v.frame.some v.core s n new refl refl refl)))
+      (λ _. one_kept s n new (frame (ltb-true _ _ small)) (same_server law g v.frame.layout.few_sites v.frame.layout.some_partitions v.core s n new refl refl refl)))
       (λ _. refused_kept v))
     where
       new : ServerState
@@ -101,11 +101,11 @@ module _ {k : Kind} (law : LawfulKind k) {sites : ℕ} {h : History} {g : GroupS
 
   pub keeps_report : (s n : ℕ) → Kept k sites h g G nothing (change_server g s n (reporting k)).1
   keeps_report s n = on_kept {A = Done} s n (λ x. (Ok tt, reporting k x))
-      (λ _ _. one_kept s n (reporting k (g.server s n)) (marks_frame s n _) (report_server law g v.frame.four v.frame.some v.core s n))
+      (λ _ _. one_kept s n (reporting k (g.server s n)) (marks_frame s n _) (report_server law g v.frame.layout.few_sites v.frame.layout.some_partitions v.core s n))
 
   pub keeps_stabilise : (s n : ℕ) → Kept k sites h g G nothing (change_server g s n (λ x. raised k x (common_floor k (reported_at g s)))).1
   keeps_stabilise s n = on_kept {A = Done} s n (λ x. (Ok tt, raised k x m))
-      (λ _ _. one_kept s n (raised k (g.server s n) m) (marks_frame s n _) (raise_server law g v.frame.four v.frame.some v.core s n m (common_mark law rows stamps) low))
+      (λ _ _. one_kept s n (raised k (g.server s n) m) (marks_frame s n _) (raise_server law g v.frame.layout.few_sites v.frame.layout.some_partitions v.core s n m (common_mark law rows stamps) low))
     where
       rows : List Four
       rows = reported_at g s
@@ -121,7 +121,7 @@ module _ {k : Kind} (law : LawfulKind k) {sites : ℕ} {h : History} {g : GroupS
 
   pub keeps_tidy : (s n : ℕ) → Kept k sites h g G nothing (on_server g s n (λ x. counted (tidied_up k x (safe_mark k g s)))).1
   keeps_tidy s n = on_kept {A = ℕ} s n (λ x. counted (tidied_up k x (safe_mark k g s)))
-      (λ _ _. one_kept s n new frame (tidy_server law g v.frame.four v.frame.some v.core s n))
+      (λ _ _. one_kept s n new frame (tidy_server law g v.frame.layout.few_sites v.frame.layout.some_partitions v.core s n))
     where
       new : ServerState
       new = (tidied_up k (g.server s n) (safe_mark k g s)).1
@@ -155,28 +155,28 @@ module _ {k : Kind} (law : LawfulKind k) {sites : ℕ} {h : History} {g : GroupS
     pub issued_entries : (e : Sent) → outbox_full srv.site srv.sites srv.waiting ≡ false → (site : ℕ) → length (issued srv.site srv.sites srv.waiting e site) ≤ 16
     issued_entries e room =
         let f = v.frame.servers s n in
-        issued_few srv.site srv.sites srv.waiting e (subst (λ (z : ℕ). z ≤ 4) (sym f.sites_is) v.frame.four) room f.entries
+        issued_few srv.site srv.sites srv.waiting e (subst (λ (z : ℕ). z ≤ 4) (sym f.sites_is) v.frame.layout.few_sites) room f.entries
 
     beat_kept : (t : ℕ) → outbox_full srv.site srv.sites srv.waiting ≡ false → last_of srv < t → t < 2 ^ 63 → Kept k sites h g G nothing (with_server g s n (issuing srv (heartbeat t)))
     beat_kept t room new small =
         let f = v.frame.servers s n in
         one_kept s n (issuing srv (heartbeat t))
         (record { site_is = f.site_is; sites_is = f.sites_is; versions = f.versions; entries = issued_entries (heartbeat t) room; reading = f.reading })
-        (place_server law g v.frame.four v.frame.some v.core s n (issuing srv (heartbeat t))
+        (place_server law g v.frame.layout.few_sites v.frame.layout.some_partitions v.core s n (issuing srv (heartbeat t))
         (set2_same _ s n _ refl) (issued_received t) (set2_same _ s n _ refl) (set2_same _ s n _ refl) (issued_waits (heartbeat t))
         (v.core.marks.stable_mark s n) (covers_self srv.marks.stable)
-        (beaten_too v.core s n in_s t (subst (λ (z : ℕ). z < t) last_is new) small))
+        (beaten v.core s n in_s t (subst (λ (z : ℕ). z < t) last_is new) small))
 
-  pub keeps_heartbeat : (rule : Rule) → LawfulRule rule → (s n : ℕ) → Kept k sites h g G nothing (on_server g s n (beaten rule)).1
-  keeps_heartbeat rule clock s n = on_kept s n (beaten rule) (λ in_s _.
-      cond_both {A = Result ℕ Refusal × ServerState} (outbox_full (g.server s n).site (g.server s n).sites (g.server s n).waiting) (Err OutboxFull, g.server s n) (beaten_at (g.server s n) answer) (λ r. Kept k sites h g G nothing (server_left g s n r).1)
+  pub keeps_heartbeat : (rule : Rule) → LawfulRule rule → (s n : ℕ) → Kept k sites h g G nothing (on_server g s n (heartbeating rule)).1
+  keeps_heartbeat rule clock s n = on_kept s n (heartbeating rule) (λ in_s _.
+      cond_both {A = Result ℕ Refusal × ServerState} (outbox_full (g.server s n).site (g.server s n).sites (g.server s n).waiting) (Err OutboxFull, g.server s n) (heartbeating_at (g.server s n) answer) (λ r. Kept k sites h g G nothing (server_left g s n r).1)
       (λ _. refused_kept v)
       (λ room. go in_s room answer (clock.allowed (last_of (g.server s n)) (g.server s n).reading 0 (stamps_at (g.server s n).marks.received (g.server s n).site (v.core.marks.received_stamps s n)) (v.frame.servers s n).reading (lit< tt))))
     where
       answer : Result ℕ Refusal
       answer = rule (last_of (g.server s n)) (g.server s n).reading 0
 
-      go : s < g.sites → outbox_full (g.server s n).site (g.server s n).sites (g.server s n).waiting ≡ false → (r : Result ℕ Refusal) → Allowed (last_of (g.server s n)) 0 r → Kept k sites h g G nothing (server_left g s n (beaten_at (g.server s n) r)).1
+      go : s < g.sites → outbox_full (g.server s n).site (g.server s n).sites (g.server s n).waiting ≡ false → (r : Result ℕ Refusal) → Allowed (last_of (g.server s n)) 0 r → Kept k sites h g G nothing (server_left g s n (heartbeating_at (g.server s n) r)).1
       go in_s room (Ok t) a = beat_kept s n in_s t room a.0 a.2
       go in_s room (Err why) a = refused_kept v
 
@@ -206,7 +206,7 @@ module _ {k : Kind} (law : LawfulKind k) {sites : ℕ} {h : History} {g : GroupS
         (both (λ (y : ServerState). y.marks.stable) sender.marks.stable refl ∙ set2_same _ to n _ same-stable)
         (ap (λ (f : ℕ → ℕ → ℕ → List Sent). set2 f from n (taken_by sender.waiting to)) (set2_field (λ (y : ServerState). y.waiting) g.server to n x ∙ set2_same _ to n _ same-waits))))
         (safer (safe_mark k (with_server (with_server g to n x) from n (handing sender to)))
-        (λ s' _. safe_servers law g v.frame.four v.frame.some v.core (set2 (set2 g.server to n x) from n (handing sender to))
+        (λ s' _. safe_servers law g v.frame.layout.few_sites v.frame.layout.some_partitions v.core (set2 (set2 g.server to n x) from n (handing sender to))
         (λ i m. subst (IsMark k) (sym (stable_same i m)) (v.core.marks.stable_mark i m))
         (λ i m. subst (λ (z : Four). Covers z (g.server i m).marks.stable) (sym (stable_same i m)) (covers_self (g.server i m).marks.stable)) s')
         core)

@@ -15,7 +15,7 @@ use Rattle.servers.specs.Versions.{VersionState, full_mark}
 use Rattle.servers.proofs.Latest.{latest_law}
 use Rattle.model.specs.Calls.{asked, hearing, learning, put_left, put_worth, safe_mark, showing, shown_of}
 use Rattle.model.specs.Events.{Put, AsLate, Later, Shown, put_shown, get, put, History}
-use Rattle.model.specs.Groups.{GroupState, SessionState, first_of, partition_of, session_at}
+use Rattle.model.specs.Groups.{GroupState, SessionState, tabulate, partition_of, session_at}
 use Rattle.model.specs.GroupStore.{held_at, joined, may_see}
 use Rattle.model.specs.Pasts.{of_session, of_put, Past, site_of}
 use Rattle.model.specs.Promises.{ShowsAsLate, WasPut}
@@ -42,12 +42,12 @@ joined_in x (ys ∷ xss) xs (inr i) j = in_right x ys (joined xss) (joined_in x 
 
 pub held_from : (g : GroupState) (s : ℕ) (w : VersionState) → In w (held_at g s) → (n : ℕ) × (n < g.partitions) × In w (g.server s n).held
 held_from g s w i =
-    let r = in_joined w (first_of (λ n. (g.server s n).held) g.partitions) i in
+    let r = in_joined w (tabulate (λ n. (g.server s n).held) g.partitions) i in
     let f = first_in (λ n. (g.server s n).held) g.partitions r.0 r.1 in
     (f.0, f.1, subst (In w) f.2 r.2)
 
 pub held_in : (g : GroupState) (s n : ℕ) (w : VersionState) → n < g.partitions → In w (g.server s n).held → In w (held_at g s)
-held_in g s n w l i = joined_in w (first_of (λ m. (g.server s m).held) g.partitions) (g.server s n).held (in_first (λ m. (g.server s m).held) g.partitions n l) i
+held_in g s n w l i = joined_in w (tabulate (λ m. (g.server s m).held) g.partitions) (g.server s n).held (in_first (λ m. (g.server s m).held) g.partitions n l) i
 
 pub showing_answer : (k : Kind) (g : GroupState) (i : ℕ) (o : Option VersionState) → (showing k g i o).0 ≡ Ok (shown_option o)
 showing_answer k g i None = refl
@@ -55,10 +55,10 @@ showing_answer k g i (Some w) = refl
 
 module _ {k : Kind} (law : LawfulKind k) {sites : ℕ} {h : History} {g : GroupState} {G : Ghost} (v : Inv k sites h g G) where
   abbrev L : Shape
-  L = shape g v.frame.four v.frame.some
+  L = shape g v.frame.layout.few_sites v.frame.layout.some_partitions
 
   source_four : (w : VersionState) → In w G.log → w.source < 4
-  source_four w i = let s = v.core.logs.source w i in let f = v.frame.four in omega arith
+  source_four w i = let s = v.core.logs.source w i in let f = v.frame.layout.few_sites in omega arith
 
   -- (a) a put is later than each put of its key in its past, of whatever key
   pub put_later : (p q : Put) → Past h (of_put p) q → Later p q
@@ -131,7 +131,7 @@ module _ {k : Kind} (law : LawfulKind k) {sites : ℕ} {h : History} {g : GroupS
         seen : (x.other ≡ r.version) ⊎ (Later (name_of x.other) (name_of r.version) × Covers (safe_mark k g s) (full_mark k x.other)) → sees k heard x.other ≡ true
         seen (inl e) = subst (λ (z : VersionState). sees k heard z ≡ true) (sym e) (seen_itself r.seen)
         seen (inr (_, c)) = seen_from x.other (covers_trans (join_left (k.floor stable) (k.floor knows)) (covers_trans (floor_over law (v.core.marks.stable_mark s n))
-            (covers_trans (safe_stable law g s (safe_rows_lem law g v.frame.four v.frame.some v.core s) n (part_small L key)) c)))
+            (covers_trans (safe_stable law g s (safe_rows_lem law g v.frame.layout.few_sites v.frame.layout.some_partitions v.core s) n (part_small L key)) c)))
 
         passes : Passes (sees k heard) key x.other
         passes = (x.same_key ∙ key_is, seen x.how)

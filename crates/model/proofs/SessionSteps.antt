@@ -66,7 +66,7 @@ see_core {k} law {P} {G} g four some core i w l logged' had clear =
 
 module _ {k : Kind} (law : LawfulKind k) {sites : ℕ} {h : History} {g : GroupState} {G : Ghost} (v : Inv k sites h g G) where
   abbrev L : Shape
-  L = shape g v.frame.four v.frame.some
+  L = shape g v.frame.layout.few_sites v.frame.layout.some_partitions
 
   -- ---- opening a session
 
@@ -95,9 +95,9 @@ module _ {k : Kind} (law : LawfulKind k) {sites : ℕ} {h : History} {g : GroupS
       opened inside few = record {
         ghost = G;
         inv = record {
-          frame = record { two = v.frame.two; four = v.frame.four; some = v.frame.some; few = v.frame.few; servers = v.frame.servers; sessions = omega (arith, length-append g.sessions (new_session site ∷ [])); seats = v.frame.seats; serials = v.frame.serials };
+          frame = record { layout = v.frame.layout; servers = v.frame.servers; sessions = omega (arith, length-append g.sessions (new_session site ∷ [])); seats = v.frame.seats; serials = v.frame.serials };
           layout = v.layout;
-          core = enrol_session law g v.frame.four v.frame.some v.core site inside;
+          core = enrol_session law g v.frame.layout.few_sites v.frame.layout.some_partitions v.core site inside;
           hist = record {
             opened_known = λ j o. let more = length-append g.sessions (new_session site ∷ []) in ⊎_elim (λ e. omega arith) (λ before. let l = v.hist.opened_known j before in omega arith) o;
             sites_known = known;
@@ -173,7 +173,7 @@ module _ {k : Kind} (law : LawfulKind k) {sites : ℕ} {h : History} {g : GroupS
 
       core1 : Core k L (Past h) (tables k (g1 t)) G'
       core1 =
-          place_server law g v.frame.four v.frame.some v.core s n (server' t)
+          place_server law g v.frame.layout.few_sites v.frame.layout.some_partitions v.core s n (server' t)
           refl (issued_received law v s n in_s t) (set2_same _ s n _ refl) refl (issued_waits law v s n in_s (update (ver t))) stable_marked stable_up
           (raised s n (join (k.floor srv.marks.stable) (k.floor x.knows)) stable_marked stable_up
           (λ n' ln. join_least (covers_trans (stored.marks.stable_below s n n' ln) (floor_under law (v.core.marks.stable_mark s n).0))
@@ -183,11 +183,11 @@ module _ {k : Kind} (law : LawfulKind k) {sites : ℕ} {h : History} {g : GroupS
       core2 : Core k L (Past h) (tables k (g2 t)) G'
       core2 =
           let inv = core1.sessions i l in
-          grow_session law (g1 t) v.frame.four v.frame.some core1 i (session' t) l refl
+          grow_session law (g1 t) v.frame.layout.few_sites v.frame.layout.some_partitions core1 i (session' t) l refl
           (covers_trans (full_mark_lem law (ver t) marked) (floor_over law (v.core.sessions i l).depends_mark)) (covers_self x.knows)
           (record {
             inside = inv.inside;
-            depends_mark = full_is_mark law (ver t) marked (subst (λ (z : ℕ). z < 4) (sym site_is) (let f = v.frame.four in let q = in_s in omega arith)) small;
+            depends_mark = full_is_mark law (ver t) marked (subst (λ (z : ℕ). z < 4) (sym site_is) (let f = v.frame.layout.few_sites in let q = in_s in omega arith)) small;
             knows_mark = inv.knows_mark;
             knows_below = inv.knows_below;
           })
@@ -231,7 +231,7 @@ module _ {k : Kind} (law : LawfulKind k) {sites : ℕ} {h : History} {g : GroupS
       -- no cut of an earlier snapshot covers the new version
       uncovered : (q : ℕ) → q < g.next_serial → Covers (G.cut_of q) (full_mark k (ver t)) → ⊥
       uncovered q lq c =
-          let at_source = full_stamp law (ver t) (G.cut_of q) (subst (λ (z : ℕ). z < 4) (sym site_is) (let f = v.frame.four in let r = in_s in omega arith)) small c in
+          let at_source = full_stamp law (ver t) (G.cut_of q) (subst (λ (z : ℕ). z < 4) (sym site_is) (let f = v.frame.layout.few_sites in let r = in_s in omega arith)) small c in
           let low = covers_at (g.server (G.snap_site q) n).marks.received (G.cut_of q) srv.site (v.core.cuts.cut_below q lq n (part_small L key)) in
           let high = received_le v.core.queues (G.snap_site q) n s (v.core.cuts.cut_site q lq) in_s in
           let low' : at (G.cut_of q) s ≤ at (g.server (G.snap_site q) n).marks.received s = subst (λ (z : ℕ). at (G.cut_of q) z ≤ at (g.server (G.snap_site q) n).marks.received z) site_is low in
@@ -267,10 +267,7 @@ module _ {k : Kind} (law : LawfulKind k) {sites : ℕ} {h : History} {g : GroupS
         ghost = G';
         inv = record {
           frame = record {
-            two = v.frame.two;
-            four = v.frame.four;
-            some = v.frame.some;
-            few = v.frame.few;
+            layout = v.frame.layout;
             servers = server_frames law v s n (server' t) (let f = v.frame.servers s n in record {
               site_is = f.site_is;
               sites_is = f.sites_is;
@@ -351,9 +348,9 @@ module _ {k : Kind} (law : LawfulKind k) {sites : ℕ} {h : History} {g : GroupS
         let inv = v.core.sessions i l in
         let g1 = with_server g y.site n heard in
         let stable = (g.server y.site n).marks.stable in
-        let raised1 = raise_server law g v.frame.four v.frame.some v.core y.site n (k.floor y.knows) (floor_mark law inv.knows_mark.0) (λ n' ln. covers_trans (inv.knows_below n' ln) (floor_under law inv.knows_mark.0)) in
+        let raised1 = raise_server law g v.frame.layout.few_sites v.frame.layout.some_partitions v.core y.site n (k.floor y.knows) (floor_mark law inv.knows_mark.0) (λ n' ln. covers_trans (inv.knows_below n' ln) (floor_under law inv.knows_mark.0)) in
         let inv1 = raised1.sessions i l in
-        grow_session law g1 v.frame.four v.frame.some raised1 i known l refl (covers_self y.depends) (covers_trans (join_right (k.floor stable) (k.floor y.knows)) (floor_over law inv.knows_mark))
+        grow_session law g1 v.frame.layout.few_sites v.frame.layout.some_partitions raised1 i known l refl (covers_self y.depends) (covers_trans (join_right (k.floor stable) (k.floor y.knows)) (floor_over law inv.knows_mark))
         (record {
           inside = inv1.inside;
           depends_mark = inv1.depends_mark;
@@ -363,10 +360,7 @@ module _ {k : Kind} (law : LawfulKind k) {sites : ℕ} {h : History} {g : GroupS
 
     pub learn_frame : Frame (learning k g i (session_at g i) n)
     learn_frame = record {
-      two = v.frame.two;
-      four = v.frame.four;
-      some = v.frame.some;
-      few = v.frame.few;
+      layout = v.frame.layout;
       servers = server_frames law v (session_at g i).site n heard (let f = v.frame.servers (session_at g i).site n in record { site_is = f.site_is; sites_is = f.sites_is; versions = f.versions; entries = f.entries; reading = f.reading });
       sessions = subst (λ (z : ℕ). z ≤ 8) (sym (length-set g.sessions i known)) v.frame.sessions;
       seats = v.frame.seats;
@@ -413,10 +407,7 @@ module _ {k : Kind} (law : LawfulKind k) {sites : ℕ} {h : History} {g : GroupS
         ghost = G;
         inv = record {
           frame = record {
-            two = v.frame.two;
-            four = v.frame.four;
-            some = v.frame.some;
-            few = v.frame.few;
+            layout = v.frame.layout;
             servers = (learn_frame i (partition_of g key) l).servers;
             sessions = (learn_frame i (partition_of g key) l).sessions;
             seats = v.frame.seats;
@@ -435,10 +426,7 @@ module _ {k : Kind} (law : LawfulKind k) {sites : ℕ} {h : History} {g : GroupS
         ghost = G;
         inv = record {
           frame = record {
-            two = v.frame.two;
-            four = v.frame.four;
-            some = v.frame.some;
-            few = v.frame.few;
+            layout = v.frame.layout;
             servers = (learn_frame i (partition_of g key) l).servers;
             sessions = subst (λ (z : ℕ). z ≤ 8) (sym (length-set g1.sessions i x2)) (learn_frame i (partition_of g key) l).sessions;
             seats = v.frame.seats;
@@ -446,7 +434,7 @@ module _ {k : Kind} (law : LawfulKind k) {sites : ℕ} {h : History} {g : GroupS
           };
           layout = v.layout;
           core = subst (λ (p : Put). Core k L (seeing (Past h) i p) (tables k (with_session g1 i x2)) G) (ap (λ (z : ℕ). record { key = z; stamp = w.stamp; source = w.source }) best.1.0)
-              (see_core law g1 v.frame.four v.frame.some core1 i w l1 logged' had clear);
+              (see_core law g1 v.frame.layout.few_sites v.frame.layout.some_partitions core1 i w l1 logged' had clear);
           hist = record {
             opened_known = λ j o. subst (λ (z : ℕ). j < z) (sym (length-set g1.sessions i x2)) (learn_opened i (partition_of g key) l j o);
             sites_known = λ j lj. learn_sites i (partition_of g key) l j (subst (λ (z : ℕ). j < z) (length-set g1.sessions i x2) lj) ∙ sym (session_sites g1 i x2 l1 refl j);

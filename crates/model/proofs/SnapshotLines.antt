@@ -42,7 +42,7 @@ read_found k g key y =
 
 module _ {k : Kind} (law : LawfulKind k) {sites : ℕ} {h : History} {g : GroupState} {G : Ghost} (v : Inv k sites h g G) where
   abbrev L : Shape
-  L = shape g v.frame.four v.frame.some
+  L = shape g v.frame.layout.few_sites v.frame.layout.some_partitions
 
   -- an open snapshot answers the latest version in the log that its cut covers
   pub read_answers : (rule : Rule) (t : Ticket) (key : ℕ) → Open t h →

@@ -38,7 +38,7 @@ read_same t u key j o p e = (cc, cc, cc)
 
 module _ {k : Kind} (law : LawfulKind k) {sites : ℕ} {h : History} {g : GroupState} {G : Ghost} (v : Inv k sites h g G) where
   abbrev L : Shape
-  L = shape g v.frame.four v.frame.some
+  L = shape g v.frame.layout.few_sites v.frame.layout.some_partitions
 
   -- ---- closing
 
@@ -78,9 +78,9 @@ module _ {k : Kind} (law : LawfulKind k) {sites : ℕ} {h : History} {g : GroupS
           record {
             ghost = G;
             inv = record {
-              frame = record { two = v.frame.two; four = v.frame.four; some = v.frame.some; few = v.frame.few; servers = v.frame.servers; sessions = v.frame.sessions; seats = length-set g.seats t.seat None ∙ v.frame.seats; serials = v.frame.serials };
+              frame = record { layout = v.frame.layout; servers = v.frame.servers; sessions = v.frame.sessions; seats = length-set g.seats t.seat None ∙ v.frame.seats; serials = v.frame.serials };
               layout = v.layout;
-              core = close_seat law g v.frame.four v.frame.some v.core t.seat la;
+              core = close_seat law g v.frame.layout.few_sites v.frame.layout.some_partitions v.core t.seat la;
               hist = record {
                 opened_known = v.hist.opened_known;
                 sites_known = v.hist.sites_known;
@@ -146,17 +146,14 @@ module _ {k : Kind} (law : LawfulKind k) {sites : ℕ} {h : History} {g : GroupS
         ghost = G';
         inv = record {
           frame = record {
-            two = v.frame.two;
-            four = v.frame.four;
-            some = v.frame.some;
-            few = v.frame.few;
+            layout = v.frame.layout;
             servers = (learn_frame law v i n li).servers;
             sessions = (learn_frame law v i n li).sessions;
             seats = length-set g.seats (lowest_free g.seats) (Some y) ∙ v.frame.seats;
             serials = omega arith;
           };
           layout = v.layout;
-          core = open_seat law g1 v.frame.four v.frame.some core1 i (lowest_free g.seats) n m li1 la ln marked known high low;
+          core = open_seat law g1 v.frame.layout.few_sites v.frame.layout.some_partitions core1 i (lowest_free g.seats) n m li1 la ln marked known high low;
           hist = record { opened_known = learn_opened law v i n li; sites_known = learn_sites law v i n li; readers_known = readers'; open_known = open' };
           reads = λ t key o j. ⊎_elim (λ e. absurd (not_snapshot t ticket key i o e)) (λ j'. read_grows grows t key o (v.reads t key o j')) j;
           written = v.written;
@@ -250,7 +247,7 @@ module _ {k : Kind} (law : LawfulKind k) {sites : ℕ} {h : History} {g : GroupS
     pub read_best : (o : Option VersionState) → IsLatest (covered k (k.floor y.cut)) key (g.server s n).held o → Best k G.log (G.cut_of y.serial) key o
     read_best o best = subst (λ (m : Four). Best k G.log m key o) seat.its_cut
         (best_read law L v.core y.cut s key (v.core.sessions y.session seat.known).inside cut_below
-        (safe_cut law g s (safe_rows_lem law g v.frame.four v.frame.some v.core s) a y there refl) o
+        (safe_cut law g s (safe_rows_lem law g v.frame.layout.few_sites v.frame.layout.some_partitions v.core s) a y there refl) o
         (subst (λ (m : Four). IsLatest (covered k m) key (g.server s n).held o) (law.floor_own y.cut cut_mark.0 cut_mark.1) best))
 
     abbrev server' : ServerState
@@ -260,7 +257,7 @@ module _ {k : Kind} (law : LawfulKind k) {sites : ℕ} {h : History} {g : GroupS
     g1 = with_server g s n server'
 
     core1 : Core k L (Past h) (tables k g1) G
-    core1 = raise_server law g v.frame.four v.frame.some v.core s n (k.floor y.cut) (floor_mark law cut_mark.0) (λ n' ln. covers_trans (cut_below n' ln) (floor_under law cut_mark.0))
+    core1 = raise_server law g v.frame.layout.few_sites v.frame.layout.some_partitions v.core s n (k.floor y.cut) (floor_mark law cut_mark.0) (λ n' ln. covers_trans (cut_below n' ln) (floor_under law cut_mark.0))
 
     frames : (s' n' : ℕ) → ServerFrame g.sites s' (g1.server s' n')
     frames = server_frames law v s n server' (let f = v.frame.servers s n in record { site_is = f.site_is; sites_is = f.sites_is; versions = f.versions; entries = f.entries; reading = f.reading })
@@ -284,7 +281,7 @@ module _ {k : Kind} (law : LawfulKind k) {sites : ℕ} {h : History} {g : GroupS
     read_kept t at_a same None best = record {
       ghost = G;
       inv = record {
-        frame = record { two = v.frame.two; four = v.frame.four; some = v.frame.some; few = v.frame.few; servers = frames; sessions = v.frame.sessions; seats = v.frame.seats; serials = v.frame.serials };
+        frame = record { layout = v.frame.layout; servers = frames; sessions = v.frame.sessions; seats = v.frame.seats; serials = v.frame.serials };
         layout = v.layout;
         core = core1;
         hist = record { opened_known = v.hist.opened_known; sites_known = v.hist.sites_known; readers_known = v.hist.readers_known; open_known = v.hist.open_known };
@@ -298,10 +295,7 @@ module _ {k : Kind} (law : LawfulKind k) {sites : ℕ} {h : History} {g : GroupS
       ghost = G;
       inv = record {
         frame = record {
-          two = v.frame.two;
-          four = v.frame.four;
-          some = v.frame.some;
-          few = v.frame.few;
+          layout = v.frame.layout;
           servers = frames;
           sessions = subst (λ (z : ℕ). z ≤ 8) (sym (length-set g.sessions y.session x2)) v.frame.sessions;
           seats = v.frame.seats;
@@ -310,7 +304,7 @@ module _ {k : Kind} (law : LawfulKind k) {sites : ℕ} {h : History} {g : GroupS
         layout = v.layout;
         core = subst (λ (z : ℕ). Core k L (seeing (Past h) z (put_shown key (shown_of w))) (tables k (with_session g1 y.session x2)) G) (sym (v.hist.readers_known a y there) ∙ ap (reader_of h) same)
             (subst (λ (p : Put). Core k L (seeing (Past h) y.session p) (tables k (with_session g1 y.session x2)) G) (ap (λ (z : ℕ). record { key = z; stamp = w.stamp; source = w.source }) best.1.0)
-            (see_core law g1 v.frame.four v.frame.some core1 y.session w seat.known had_there.0 had_there.2 (inr clear)));
+            (see_core law g1 v.frame.layout.few_sites v.frame.layout.some_partitions core1 y.session w seat.known had_there.0 had_there.2 (inr clear)));
         hist = record {
           opened_known = still_opened v (length-set g.sessions y.session x2);
           sites_known = λ j lj. v.hist.sites_known j (subst (λ (z : ℕ). j < z) (length-set g.sessions y.session x2) lj) ∙ sym (session_sites g1 y.session x2 seat.known refl j);

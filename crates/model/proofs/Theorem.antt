@@ -1,10 +1,10 @@
 -- A group keeps its promises, for every clock rule and every kind of mark that show their meaning.
-use Rattle.std.proofs.Common.{ℕ, ◌<◌, ◌≤◌, [], Some, None, sym, refl, subst}
+use Rattle.std.proofs.Common.{ℕ, ◌<◌, [], Some, None, sym, refl, subst}
 use Rattle.stamps.specs.Clocks.{LawfulRule}
 use Rattle.marks.specs.Kinds.{Kind, LawfulKind}
 use Rattle.servers.specs.Servers.{Rule}
 use Rattle.model.specs.Groups.{made}
-use Rattle.model.specs.GroupStore.{GroupKeepsPromises, group_store, held_at}
+use Rattle.model.specs.GroupStore.{LayoutBounded, GroupKeepsPromises, group_store, held_at}
 use Rattle.model.specs.Promises.{Promises, ShowsAsLate}
 use Rattle.model.specs.Stores.{Run, history}
 use Rattle.servers.specs.Laws.{In}
@@ -44,7 +44,7 @@ promises {k} law rule clock sites r G v = record {
     inside : {s : ℕ} → s < sites → s < r.state.sites
     inside {s} l = subst (λ (z : ℕ). s < z) (sym v.layout) l
 
-pub keeps_promises : {k : Kind} → LawfulKind k → (rule : Rule) → LawfulRule rule → (sites partitions : ℕ) → 2 ≤ sites → sites ≤ 4 → 1 ≤ partitions → partitions ≤ 4 → GroupKeepsPromises rule k sites partitions
-keeps_promises law rule clock sites partitions two four some few calls =
-    let end = ran law rule clock sites (record { events = []; state = made sites partitions }) no_ghost (begins law sites partitions two four some few) calls in
+pub keeps_promises : {k : Kind} → LawfulKind k → (rule : Rule) → LawfulRule rule → (sites partitions : ℕ) → LayoutBounded sites partitions → GroupKeepsPromises rule k sites partitions
+keeps_promises law rule clock sites partitions layout calls =
+    let end = ran law rule clock sites (record { events = []; state = made sites partitions }) no_ghost (begins law sites partitions layout) calls in
     promises law rule clock sites _ end.ghost end.inv

@@ -6,7 +6,7 @@ use Rattle.stamps.specs.Rows.{Four, join}
 use Rattle.marks.specs.Kinds.{Kind}
 use Rattle.servers.specs.Entries.{Sent}
 use Rattle.servers.specs.Outboxes.{next_for}
-use Rattle.servers.specs.Servers.{Rule, ServerState, told, beaten, putting, put_version, handing, taking, lead_of, raised, reporting, latest_visible, latest_covered, tidied_up}
+use Rattle.servers.specs.Servers.{Rule, ServerState, telling, heartbeating, putting, put_version, handing, taking, lead_of, raised, reporting, latest_visible, latest_covered, tidied_up}
 use Rattle.servers.specs.Values.{Worth, worth_from}
 use Rattle.servers.specs.Versions.{VersionState, full_mark}
 use Rattle.model.specs.Events.{Done, Shown, Ticket, Call, open_session, tell, put, get, heartbeat, deliver, report, stabilise, open_snapshot, read, close, tidy, lead, Answer}
@@ -113,11 +113,11 @@ counted (n, s) = (Ok n, s)
 
 abbrev pub asked : Rule → Kind → GroupState → (call : Call) → Answer call × GroupState
 asked rule k g (open_session site) = opened_session g site
-asked rule k g (tell site partition time) = on_server g site partition (λ s. told s time)
+asked rule k g (tell site partition time) = on_server g site partition (λ s. telling s time)
 asked rule k g (put i key kind amount) = on_session g i (λ x. put_worth rule k g i key x (worth_from kind amount))
 asked rule k g (get i key) =
     on_session g i (λ x. showing k (learning k g i x (partition_of g key)) i (latest_visible k (hearing k g x (partition_of g key)) key))
-asked rule k g (heartbeat site partition) = on_server g site partition (beaten rule)
+asked rule k g (heartbeat site partition) = on_server g site partition (heartbeating rule)
 asked rule k g (deliver from to partition) =
     cond (has_server g from partition && (has_server g to partition && not (from == to)))
     (delivered g from to partition (next_for (g.server from partition).waiting to))

@@ -9,7 +9,7 @@ use Rattle.servers.specs.Laws.{In}
 use Rattle.servers.specs.Values.{Worth, gone, price, percent, part, sheet}
 use Rattle.servers.specs.Versions.{VersionState}
 use Rattle.model.specs.Calls.{asked, hearing}
-use Rattle.model.specs.Groups.{GroupState, SessionState, SeatState, made, partition_of, session_at, seat_at, first_of}
+use Rattle.model.specs.Groups.{GroupState, SessionState, SeatState, made, partition_of, session_at, seat_at, tabulate}
 use Rattle.model.specs.Promises.{KeepsPromises}
 use Rattle.model.specs.Stores.{Store}
 
@@ -20,7 +20,7 @@ joined (xs ∷ xss) = xs ++ joined xss
 
 -- the versions of all servers of a site
 abbrev pub held_at : GroupState → ℕ → List VersionState
-held_at g site = joined (first_of (λ n. (g.server site n).held) g.partitions)
+held_at g site = joined (tabulate (λ n. (g.server site n).held) g.partitions)
 
 -- every outbox is empty
 abbrev pub AllTaken : GroupState → Type 0
@@ -71,11 +71,16 @@ pub record SeatBounded (k : Kind) (sessions next : ℕ) (y : SeatState) : Type 0
   pub serial : y.serial < next
   pub cut : IsMark k y.cut
 
--- A group has 2 to 4 sites, 1 to 4 partitions, at most 8 sessions, and 4 seats. A serial number that was given is below the
--- next one, so below 2^32 - 1.
+-- 2 to 4 sites and 1 to 4 partitions
+pub record LayoutBounded (sites partitions : ℕ) : Type 0 where
+  pub some_sites : 2 ≤ sites
+  pub few_sites : sites ≤ 4
+  pub some_partitions : 1 ≤ partitions
+  pub few_partitions : partitions ≤ 4
+
+-- A group has at most 8 sessions, and 4 seats. A serial number that was given is below the next one, so below 2^32 - 1.
 pub record GroupBounded (k : Kind) (g : GroupState) : Type 0 where
-  pub sites : (2 ≤ g.sites) × (g.sites ≤ 4)
-  pub partitions : (1 ≤ g.partitions) × (g.partitions ≤ 4)
+  pub layout : LayoutBounded g.sites g.partitions
   pub servers : (site partition : ℕ) → site < g.sites → partition < g.partitions → ServerBounded k g.sites (g.server site partition)
   pub few_sessions : length g.sessions ≤ 8
   pub sessions : (i : ℕ) → i < length g.sessions → SessionBounded k g.sites (session_at g i)

@@ -70,16 +70,16 @@ lowest_free (None ∷ ys) = 0
 lowest_free (Some y ∷ ys) = suc (lowest_free ys)
 
 -- f 0, f 1, and so on, the first n of them
-abbrev pub first_of : {A : Type 0} → (ℕ → A) → ℕ → List A
-first_of f zero = []
-first_of f (suc n) = first_of f n ++ (f n ∷ [])
+abbrev pub tabulate : {A : Type 0} → (ℕ → A) → ℕ → List A
+tabulate f zero = []
+tabulate f (suc n) = tabulate f n ++ (f n ∷ [])
 
 -- the reported and the stable marks of a site's servers
 abbrev pub reported_at : GroupState → ℕ → List Four
-reported_at g site = first_of (λ n. (g.server site n).marks.reported) g.partitions
+reported_at g site = tabulate (λ n. (g.server site n).marks.reported) g.partitions
 
 abbrev pub stable_at : GroupState → ℕ → List Four
-stable_at g site = first_of (λ n. (g.server site n).marks.stable) g.partitions
+stable_at g site = tabulate (λ n. (g.server site n).marks.stable) g.partitions
 
 -- the cuts of the open snapshots of a site's sessions
 abbrev pub cuts_of : GroupState → ℕ → List (Option SeatState) → List Four

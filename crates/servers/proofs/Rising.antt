@@ -11,7 +11,7 @@ use Rattle.servers.specs.Entries.{Sent, heartbeat, update}
 use Rattle.servers.specs.Laws.{Call, In, OfStamps, Life, Rising, RisingLaw, beat, called, hand_over, life, newest, put, raise, report, stamped, take_from, tell, tidy, unstamped}
 use Rattle.servers.specs.Others.{is_other}
 use Rattle.servers.specs.Outboxes.{outbox_full}
-use Rattle.servers.specs.Servers.{Rule, ServerState, beaten_at, first_entry, first_received, keeping, last_of, putting_at, receiving, taking_other, told_reading}
+use Rattle.servers.specs.Servers.{Rule, ServerState, heartbeating_at, first_entry, first_received, keeping, last_of, putting_at, receiving, taking_other, telling_checked}
 use Rattle.servers.specs.Tables.{table_full}
 use Rattle.servers.specs.Values.{Worth}
 use Rattle.servers.proofs.RowEntries.{at_other, at_same, by_site}
@@ -54,7 +54,7 @@ module _ (rule : Rule) (lawful : LawfulRule rule) (k : Kind) (site : ℕ) (few :
 
   tell_sound : (l : Life) (time : ℕ) → Sound site l → Sound site (called rule k l (tell time))
   tell_sound l time h =
-      cond_both (ltb time (2 ^ 47)) (Ok time) (Err Unlawful) (λ r. SoundAfter l (told_reading l.server r))
+      cond_both (ltb time (2 ^ 47)) (Ok time) (Err Unlawful) (λ r. SoundAfter l (telling_checked l.server r))
       (λ lawful-time. cond_both (ltb time l.server.reading) _ _ (SoundAfter l) (λ _. h)
       (λ _. record { here = h.here; reading = ltb-true time (2 ^ 47) lawful-time; rise = h.rise; last = h.last }))
       (λ _. h)
@@ -70,8 +70,8 @@ module _ (rule : Rule) (lawful : LawfulRule rule) (k : Kind) (site : ℕ) (few :
         last = ap (λ x. at x site) row ∙ ap (λ i. at (with_entry l.server.marks.received i stamp) site) h.here ∙ at_same l.server.marks.received site stamp few;
       }
 
-  beat_at : (l : Life) (r : Result ℕ Refusal) → Allowed (newest l.made) 0 r → Sound site l → SoundStamped l (beaten_at l.server r)
-  beat_at l (Ok stamp) a h = stamp_sound l stamp (beaten_at l.server (Ok stamp)).1 a.0 a.2 refl refl refl h
+  beat_at : (l : Life) (r : Result ℕ Refusal) → Allowed (newest l.made) 0 r → Sound site l → SoundStamped l (heartbeating_at l.server r)
+  beat_at l (Ok stamp) a h = stamp_sound l stamp (heartbeating_at l.server (Ok stamp)).1 a.0 a.2 refl refl refl h
   beat_at l (Err why) a h = h
 
   beat_sound : (l : Life) → Sound site l → Sound site (called rule k l beat)

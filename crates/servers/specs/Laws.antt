@@ -6,7 +6,7 @@ use Rattle.stamps.specs.Rows.{Four, Stamps}
 use Rattle.servers.specs.Entries.{Sent}
 use Rattle.servers.specs.Others.{is_other}
 use Rattle.servers.specs.Outboxes.{Queues, first, issued, none_waiting, outbox_full, taken_by}
-use Rattle.servers.specs.Servers.{Rule, ServerState, beaten, fresh, handing, last_of, putting, raised, reporting, taking, tidied_up, told}
+use Rattle.servers.specs.Servers.{Rule, ServerState, heartbeating, fresh, handing, last_of, putting, raised, reporting, taking, tidied_up, telling}
 use Rattle.servers.specs.Tables.{covered}
 use Rattle.servers.specs.Values.{Worth}
 use Rattle.servers.specs.Versions.{VersionState}
@@ -125,8 +125,8 @@ stamped l (Ok stamp) after = record { server = after; made = stamp ∷ l.made }
 stamped l (Err why) after = unstamped l after
 
 abbrev pub called : Rule → Kind → Life → Call → Life
-called rule k l (tell time) = unstamped l (told l.server time).1
-called rule k l beat = let r = beaten rule l.server in stamped l r.0 r.1
+called rule k l (tell time) = unstamped l (telling l.server time).1
+called rule k l beat = let r = heartbeating rule l.server in stamped l r.0 r.1
 called rule k l (put key value depends knows) = let r = putting rule k l.server key value depends knows in stamped l r.0 r.1
 called rule k l (take_from from e) = unstamped l (taking l.server from e).1
 called rule k l (hand_over site) = unstamped l (handing l.server site)

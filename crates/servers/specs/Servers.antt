@@ -73,13 +73,13 @@ abbrev pub with_marks : ServerState → MarksState → ServerState
 with_marks s marks = record s { marks = marks }
 
 -- tell: a reading outside its range is refused before one that is behind
-abbrev pub told_reading : ServerState → Result ℕ Refusal → Result (Unit {0}) Refusal × ServerState
-told_reading s (Err why) = (Err why, s)
-told_reading s (Ok time) =
+abbrev pub telling_checked : ServerState → Result ℕ Refusal → Result (Unit {0}) Refusal × ServerState
+telling_checked s (Err why) = (Err why, s)
+telling_checked s (Ok time) =
     cond (nat_lt time s.reading) (Err ReadingBehind, s) (Ok tt, record s { reading = time })
 
-abbrev pub told : ServerState → ℕ → Result (Unit {0}) Refusal × ServerState
-told s time = told_reading s (checked_reading time)
+abbrev pub telling : ServerState → ℕ → Result (Unit {0}) Refusal × ServerState
+telling s time = telling_checked s (checked_reading time)
 
 -- an entry is issued: its stamp is the last one, and every other site has it to take
 abbrev pub issuing : ServerState → Sent → ServerState
@@ -87,12 +87,12 @@ issuing s e =
     record s { marks = with_received s.marks s.site (stamp_of e); waiting = issued s.site s.sites s.waiting e }
 
 -- heartbeat: a full outbox is refused before the rule is asked
-abbrev pub beaten_at : ServerState → Result ℕ Refusal → Result ℕ Refusal × ServerState
-beaten_at s (Err why) = (Err why, s)
-beaten_at s (Ok stamp) = (Ok stamp, issuing s (heartbeat stamp))
+abbrev pub heartbeating_at : ServerState → Result ℕ Refusal → Result ℕ Refusal × ServerState
+heartbeating_at s (Err why) = (Err why, s)
+heartbeating_at s (Ok stamp) = (Ok stamp, issuing s (heartbeat stamp))
 
-abbrev pub beaten : Rule → ServerState → Result ℕ Refusal × ServerState
-beaten rule s = cond (outbox_full s.site s.sites s.waiting) (Err OutboxFull, s) (beaten_at s (rule (last_of s) s.reading 0))
+abbrev pub heartbeating : Rule → ServerState → Result ℕ Refusal × ServerState
+heartbeating rule s = cond (outbox_full s.site s.sites s.waiting) (Err OutboxFull, s) (heartbeating_at s (rule (last_of s) s.reading 0))
 
 -- the time of the last stamp less the reading
 abbrev pub lead_of : ServerState → ℤ

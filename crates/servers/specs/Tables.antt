@@ -46,5 +46,5 @@ abbrev pub table_full : List VersionState → Bool
 table_full vs = nat_le 32 (length vs)
 
 -- one version more, if there is room
-abbrev pub kept1 : List VersionState → VersionState → List VersionState
-kept1 vs v = cond (table_full vs) vs (vs ++ v ∷ [])
+abbrev pub kept_if_room : List VersionState → VersionState → List VersionState
+kept_if_room vs v = cond (table_full vs) vs (vs ++ v ∷ [])

@@ -7,7 +7,7 @@ ghost use Rattle.servers.specs.Entries.{sent};
 ghost use Rattle.servers.specs.Laws.{Above};
 ghost use Rattle.servers.specs.Outboxes.{next_for};
 ghost use Rattle.servers.specs.Values.{worth};
-ghost use Rattle.servers.specs.Servers.{view, last_of, told, beaten, putting, handing, taking, taking_other, lead_of};
+ghost use Rattle.servers.specs.Servers.{view, last_of, telling, heartbeating, putting, handing, taking, taking_other, lead_of};
 
 use super::Server;
 use crate::entry::Entry;
@@ -23,7 +23,7 @@ use stamps::stamp::Stamp;
 impl<C: ClockRule, K: MarkKind> Server<C, K> {
     // The physical clock shows a new time, which must not be behind the present one.
     pub fn tell(&mut self, time: u64) -> Result<(), Refusal>
-        ensures step { (result, view self.new) ≡ told (view self.old) time }
+        ensures step { (result, view self.new) ≡ telling (view self.old) time }
         ensures keeps { RefusalKeeps result (view self.old) (view self.new) }
     {
         let reading = Reading::try_from(time)?;
@@ -36,7 +36,7 @@ impl<C: ClockRule, K: MarkKind> Server<C, K> {
 
     // A new stamp for the other sites, with nothing written.
     pub fn heartbeat(&mut self) -> Result<Stamp, Refusal>
-        ensures step { (stamp_number result, view self.new) ≡ beaten C.ClockRule.answer (view self.old) }
+        ensures step { (stamp_number result, view self.new) ≡ heartbeating C.ClockRule.answer (view self.old) }
         ensures rises { Above (last_of (view self.old)) (stamp_number result) }
         ensures keeps { RefusalKeeps result (view self.old) (view self.new) }
     {

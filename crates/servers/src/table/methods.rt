@@ -1,7 +1,7 @@
 // The methods of `VersionTable`.
 ghost use Rattle.std.specs.Prelude.{◌≡◌, []};
 ghost use Rattle.servers.specs.Versions.{plain};
-ghost use Rattle.servers.specs.Tables.{latest as latest_of, table_full, kept1, tidying};
+ghost use Rattle.servers.specs.Tables.{latest as latest_of, table_full, kept_if_room, tidying};
 ghost use Rattle.servers.specs.Held.{held, shown};
 ghost use Rattle.servers.specs.Laws.{IsLatest, IsTidied};
 
@@ -28,7 +28,7 @@ impl VersionTable {
 
     // One version more, at the end; a full table stays as it is.
     pub(crate) fn keep(&mut self, version: Version)
-        ensures { held self.new ≡ kept1 (held self.old) (plain version) }
+        ensures { held self.new ≡ kept_if_room (held self.old) (plain version) }
     {
         let _ = self.versions.push(version);
     }

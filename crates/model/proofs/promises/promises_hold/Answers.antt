@@ -2,4 +2,4 @@ use Rattle.model.proofs.Theorem.{keeps_promises}
 use Rattle.model.proofs.promises.promises_hold.Goals as goal
 
 pub returns : goal.returns
-returns g c = λ some few. keeps_promises g.met.K.MarkKind.lawful g.C.ClockRule.answer g.met.C.ClockRule.lawful c.args.sites.number c.args.partitions c.args.sites.some.0 c.args.sites.some.1 some few
+returns g c = keeps_promises g.met.K.MarkKind.lawful g.C.ClockRule.answer g.met.C.ClockRule.lawful c.args.sites c.args.partitions

@@ -30,7 +30,8 @@ returns g c =
       state = is;
       promises =
           subst (KeepsPromises (group_store rule kind layout.sites.number)) (sym is)
-          (keeps_promises g.met.K.MarkKind.lawful rule g.met.C.ClockRule.lawful layout.sites.number layout.partitions layout.sites.some.0 layout.sites.some.1 layout.some_partitions.0 layout.some_partitions.1);
+          (keeps_promises g.met.K.MarkKind.lawful rule g.met.C.ClockRule.lawful layout.sites.number layout.partitions
+          (record { some_sites = layout.sites.some.0; few_sites = layout.sites.some.1; some_partitions = layout.some_partitions.0; few_partitions = layout.some_partitions.1 }));
     }
   where
     fresh_of : {i j n m : ℕ} → i ≡ j → n ≡ m → fresh i n ≡ fresh j m
