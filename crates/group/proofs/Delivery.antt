@@ -6,10 +6,10 @@ use Rattle.stamps.specs.declared.refusal.Refusal.TheVariants.{NotInLayout}
 use Rattle.servers.specs.Entries.{Sent}
 use Rattle.servers.specs.Outboxes.{next_for}
 use Rattle.servers.specs.Servers.{ServerState, handing, taking}
-use Rattle.model.specs.Groups.{GroupState, with_server}
+use Rattle.model.specs.Groups.{GroupState, is_line, with_server}
 use Rattle.group.specs.declared.place.Place.{Place}
 use Rattle.group.specs.Groups.{called_at, server_at, with_server_at}
-use Rattle.group.specs.Layouts.{checked_line, has_line, line_numbers, numbers_of}
+use Rattle.group.specs.Layouts.{checked_line, line_numbers, numbers_of}
 use Rattle.group.proofs.Views.{by_numbers, passed}
 use Rattle.model.specs.Calls.{has_server, server_left, took_left, delivered}
 
@@ -33,9 +33,9 @@ took g mid after from to partition (Err why, s) e f ne =
 
 -- the two servers of a line that a layout has
 lined : (sites partitions from to partition : ℕ) (sender taker : Place) → line_numbers (Ok (sender, taker)) ≡ checked_line sites partitions from to partition
-    → (has_line sites partitions from to partition ≡ true) × (numbers_of sender ≡ (from, partition)) × (numbers_of taker ≡ (to, partition))
+    → (is_line sites partitions from to partition ≡ true) × (numbers_of sender ≡ (from, partition)) × (numbers_of taker ≡ (to, partition))
 lined sites partitions from to partition sender taker e =
-    let p = passed (has_line sites partitions from to partition) (numbers_of sender, numbers_of taker) ((from, partition), (to, partition)) e in
+    let p = passed (is_line sites partitions from to partition) (numbers_of sender, numbers_of taker) ((from, partition), (to, partition)) e in
     let first : (ℕ × ℕ) × (ℕ × ℕ) → ℕ × ℕ = λ x. x.0 in
     let second : (ℕ × ℕ) × (ℕ × ℕ) → ℕ × ℕ = λ x. x.1 in
     (p.0, ap first p.1, ap second p.1)

@@ -3,13 +3,10 @@ use Rattle.std.specs.Prelude.{◌≡◌, ℕ, zero, suc, ◌<◌, cond, ◌&&◌
 use Rattle.fixed_vec.specs.Items.{items}
 use Rattle.servers.specs.Servers.{ServerState, fresh, view as server_view}
 use Rattle.servers.specs.declared.server.Server.{Server}
-use Rattle.servers.specs.Versions.{VersionState, full_mark}
-use Rattle.stamps.specs.Rows.{join}
 use Rattle.stamps.specs.declared.row.Row.{Row}
 use Rattle.stamps.specs.declared.refusal.Refusal.{Refusal}
-use Rattle.marks.specs.Kinds.{Kind}
-use Rattle.model.specs.Groups.{GroupState, session_at, with_server, with_session}
-use Rattle.model.specs.Calls.{depending, server_left}
+use Rattle.model.specs.Groups.{GroupState, with_server}
+use Rattle.model.specs.Calls.{server_left}
 use Rattle.group.specs.Sessions.{session_state, seat_states}
 use Rattle.group.specs.declared.group.Group.{Group}
 use Rattle.group.specs.declared.place.Place.{Place}
@@ -55,9 +52,3 @@ RowsOf gives server zero rows = rows ≡ []
 RowsOf {C} {K} {Mark} gives server (suc n) rows =
     (before : List Row) × (s : Server C K Mark) × (row : Row)
     × (rows ≡ before ++ row ∷ []) × RowsOf gives server n before × (server_view s ≡ server n) × gives s row
-
--- a session depends on a version from then on
-abbrev pub depending_on : Kind → GroupState → ℕ → VersionState → GroupState
-depending_on k g i v =
-    let x = session_at g i in
-    with_session g i (depending x (join (k.floor x.depends) (full_mark k v)))

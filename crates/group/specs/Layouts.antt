@@ -1,7 +1,8 @@
 -- Layouts: which counts pass the check, and which servers there are.
-use Rattle.std.specs.Prelude.{ℕ, Bool, cond, not, ◌&&◌, Ok, Err, Result, ◌==◌, nat_le, nat_lt}
+use Rattle.std.specs.Prelude.{ℕ, cond, ◌&&◌, Ok, Err, Result, nat_le, nat_lt}
 use Rattle.stamps.specs.declared.refusal.Refusal.{Refusal}
 use Rattle.stamps.specs.declared.refusal.Refusal.TheVariants.{BadLayout, NotInLayout}
+use Rattle.model.specs.Groups.{is_line, is_server}
 use Rattle.group.specs.declared.layout.Layout.{Layout}
 use Rattle.group.specs.declared.partition.Partition.{Partition}
 use Rattle.group.specs.declared.place.Place.{Place}
@@ -15,15 +16,6 @@ counts_of (Err why) = Err why
 abbrev pub checked_counts : ℕ → ℕ → Result (ℕ × ℕ) Refusal
 checked_counts sites partitions =
     cond (nat_le 2 sites && (nat_le sites 4 && (nat_le 1 partitions && nat_le partitions 4))) (Ok (sites, partitions)) (Err BadLayout)
-
--- every site has every partition, and such a pair is a server
-abbrev pub has_server : ℕ → ℕ → ℕ → ℕ → Bool
-has_server sites partitions site partition = nat_lt site sites && nat_lt partition partitions
-
--- the servers of a partition at two sites have a line between them
-abbrev pub has_line : ℕ → ℕ → ℕ → ℕ → ℕ → Bool
-has_line sites partitions from to partition =
-    has_server sites partitions from partition && (has_server sites partitions to partition && not (from == to))
 
 -- a site or a partition among so many, or the refusal
 abbrev pub below : ℕ → ℕ → Result ℕ Refusal
@@ -42,7 +34,7 @@ place_numbers (Ok place) = Ok (numbers_of place)
 place_numbers (Err why) = Err why
 
 abbrev pub checked_place : ℕ → ℕ → ℕ → ℕ → Result (ℕ × ℕ) Refusal
-checked_place sites partitions site partition = cond (has_server sites partitions site partition) (Ok (site, partition)) (Err NotInLayout)
+checked_place sites partitions site partition = cond (is_server sites partitions site partition) (Ok (site, partition)) (Err NotInLayout)
 
 -- the two servers of a line
 abbrev pub line_numbers : Result (Place × Place) Refusal → Result ((ℕ × ℕ) × (ℕ × ℕ)) Refusal
@@ -51,4 +43,4 @@ line_numbers (Err why) = Err why
 
 abbrev pub checked_line : ℕ → ℕ → ℕ → ℕ → ℕ → Result ((ℕ × ℕ) × (ℕ × ℕ)) Refusal
 checked_line sites partitions from to partition =
-    cond (has_line sites partitions from to partition) (Ok ((from, partition), (to, partition))) (Err NotInLayout)
+    cond (is_line sites partitions from to partition) (Ok ((from, partition), (to, partition))) (Err NotInLayout)

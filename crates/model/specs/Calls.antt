@@ -1,5 +1,5 @@
 -- What each call of a group answers, and the group after it. Refusals stand in the order in which they are checked.
-use Rattle.std.specs.Prelude.{ℕ, suc, ◌-◌, ◌^◌, Bool, cond, not, ◌&&◌, [], ◌∷◌, ◌++◌, length, Some, None, Ok, Err, Option, Result, ◌==◌, nat_le, nat_lt}
+use Rattle.std.specs.Prelude.{ℕ, suc, ◌-◌, ◌^◌, Bool, cond, [], ◌∷◌, ◌++◌, length, Some, None, Ok, Err, Option, Result, ◌==◌, nat_le, nat_lt}
 use Rattle.stamps.specs.declared.refusal.Refusal.{Refusal}
 use Rattle.stamps.specs.declared.refusal.Refusal.TheVariants.{NotInLayout, NoSession, NoneFree, NothingWaits, NotOpen, End}
 use Rattle.stamps.specs.Rows.{Four, join}
@@ -11,11 +11,10 @@ use Rattle.servers.specs.Values.{Worth, worth_from}
 use Rattle.servers.specs.Versions.{VersionState, full_mark}
 use Rattle.model.specs.Events.{Done, Shown, Ticket, Call, open_session, tell, put, get, heartbeat, deliver, report, stabilise, open_snapshot, read, close, tidy, lead, Answer}
 use Rattle.marks.specs.CommonFloors.{common_floor}
-use Rattle.model.specs.Groups.{GroupState, SessionState, SeatState, new_session, partition_of, session_at, seat_at, with_server, with_sessions, with_session, with_seat, lowest_free, reported_at, stable_at, cuts_at}
+use Rattle.model.specs.Groups.{GroupState, SessionState, SeatState, new_session, partition_of, session_at, seat_at, with_server, with_sessions, with_session, with_seat, is_line, is_server, lowest_free, reported_at, stable_at, cuts_at}
 
--- every site has every partition, and such a pair is a server
 abbrev pub has_server : GroupState → ℕ → ℕ → Bool
-has_server g site partition = nat_lt site g.sites && nat_lt partition g.partitions
+has_server g = is_server g.sites g.partitions
 
 -- what a server has answered and left, as the group's; a refusal leaves the group as it was
 abbrev pub server_left : {A : Type 0} → GroupState → ℕ → ℕ → Result A Refusal × ServerState → Result A Refusal × GroupState
@@ -70,11 +69,14 @@ put_worth rule k g i key x (Ok value) =
 abbrev pub shown_of : VersionState → Shown
 shown_of v = record { value = v.value; stamp = v.stamp; source = v.source }
 
+abbrev pub depending_on : Kind → GroupState → ℕ → VersionState → GroupState
+depending_on k g i v =
+    let x = session_at g i in
+    with_session g i (depending x (join (k.floor x.depends) (full_mark k v)))
+
 abbrev pub showing : Kind → GroupState → ℕ → Option VersionState → Result (Option Shown) Refusal × GroupState
 showing k g i None = (Ok None, g)
-showing k g i (Some v) =
-    let x = session_at g i in
-    (Ok (Some (shown_of v)), with_session g i (depending x (join (k.floor x.depends) (full_mark k v))))
+showing k g i (Some v) = (Ok (Some (shown_of v)), depending_on k g i v)
 
 -- a session's server hears what the session knows, and the session knows its stable mark from then on
 abbrev pub hearing : Kind → GroupState → SessionState → ℕ → ServerState
@@ -119,7 +121,7 @@ asked rule k g (get i key) =
     on_session g i (λ x. showing k (learning k g i x (partition_of g key)) i (latest_visible k (hearing k g x (partition_of g key)) key))
 asked rule k g (heartbeat site partition) = on_server g site partition (heartbeating rule)
 asked rule k g (deliver from to partition) =
-    cond (has_server g from partition && (has_server g to partition && not (from == to)))
+    cond (is_line g.sites g.partitions from to partition)
     (delivered g from to partition (next_for (g.server from partition).waiting to))
     (Err NotInLayout, g)
 asked rule k g (report site partition) = change_server g site partition (reporting k)

@@ -1,5 +1,5 @@
 -- A group in plain numbers: its servers, its sessions and its open snapshots.
-use Rattle.std.specs.Prelude.{ℕ, zero, suc, ◌%◌, cond, ◌&&◌, List, [], ◌∷◌, ◌++◌, Some, None, Option, ◌==◌, slice_index_or, slice_set}
+use Rattle.std.specs.Prelude.{ℕ, zero, suc, ◌%◌, Bool, cond, not, ◌&&◌, List, [], ◌∷◌, ◌++◌, Some, None, Option, ◌==◌, nat_lt, slice_index_or, slice_set}
 use Rattle.stamps.specs.Rows.{Four, same}
 use Rattle.servers.specs.Servers.{ServerState, fresh}
 
@@ -35,6 +35,15 @@ new_session site = record { site = site; depends = same 0; knows = same 0 }
 abbrev pub made : ℕ → ℕ → GroupState
 made sites partitions =
     record { sites = sites; partitions = partitions; server = λ site partition. fresh site sites; sessions = []; seats = None ∷ None ∷ None ∷ None ∷ []; next_serial = 0 }
+
+-- every site has every partition, and such a pair is a server
+abbrev pub is_server : ℕ → ℕ → ℕ → ℕ → Bool
+is_server sites partitions site partition = nat_lt site sites && nat_lt partition partitions
+
+-- the servers of a partition at two sites have a line between them
+abbrev pub is_line : ℕ → ℕ → ℕ → ℕ → ℕ → Bool
+is_line sites partitions from to partition =
+    is_server sites partitions from partition && (is_server sites partitions to partition && not (from == to))
 
 -- the partition of a key
 abbrev pub partition_of : GroupState → ℕ → ℕ

@@ -5,12 +5,12 @@ ghost use Rattle.servers.specs.Entries.{sent};
 ghost use Rattle.servers.specs.Servers.{view as server_view, handing, putting, taking, raised, tidied_up};
 ghost use Rattle.model.specs.Groups.{with_session, session_at};
 ghost use Rattle.std.specs.Option.{option_map};
-ghost use Rattle.model.specs.Calls.{learning, counted, showing};
+ghost use Rattle.model.specs.Calls.{learning, counted, depending_on, showing};
 ghost use Rattle.servers.specs.Held.{shown};
 ghost use Rattle.group.specs.Answers.{shown_state};
 ghost use Rattle.servers.specs.Values.{worth};
 ghost use Rattle.servers.specs.Versions.{plain};
-ghost use Rattle.group.specs.Groups.{view, server_at, with_server_at, called_at, depending_on};
+ghost use Rattle.group.specs.Groups.{view, server_at, with_server_at, called_at};
 ghost use Rattle.group.specs.Sessions.{session_state};
 
 use super::Group;

@@ -1,7 +1,8 @@
 // The check of a draft, and questions to a checked layout.
 ghost use Rattle.std.specs.Prelude.{◌≡◌, ◌%◌};
 ghost use Rattle.stamps.specs.Checks.{site_number};
-ghost use Rattle.group.specs.Layouts.{counts_of, checked_counts, has_server, below, partition_number, place_numbers, checked_place, line_numbers, checked_line};
+ghost use Rattle.model.specs.Groups.{is_server};
+ghost use Rattle.group.specs.Layouts.{counts_of, checked_counts, below, partition_number, place_numbers, checked_place, line_numbers, checked_line};
 
 use super::{Draft, Layout};
 use crate::partition::Partition;
@@ -68,7 +69,7 @@ impl Layout {
 
     // Whether the site has such a server.
     pub fn has_server(&self, site: u8, partition: u8) -> bool
-        ensures { result ≡ has_server self.now.sites.number self.now.partitions site partition }
+        ensures { result ≡ is_server self.now.sites.number self.now.partitions site partition }
     {
         self.place(site, partition).is_ok()
     }
