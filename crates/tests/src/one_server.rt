@@ -153,9 +153,9 @@ fn a_site_takes_each_entry_once(rt: HostRuntime) -> Result<(), Fail> {
     Ok(())
 }
 
-// A server takes no entry of its own site.
+// A server takes no entry of its own site, and none from a site that its layout lacks.
 #[test]
-fn a_server_takes_no_entry_of_its_own(rt: HostRuntime) -> Result<(), Fail> {
+fn a_server_takes_entries_of_its_layouts_other_sites(rt: HostRuntime) -> Result<(), Fail> {
     let mut server = hybrid_server(0)?;
     put_price(&mut server, 1, 5)?;
     let Some(entry) = server.next_for(Site::try_from(1)?) else {
@@ -163,6 +163,10 @@ fn a_server_takes_no_entry_of_its_own(rt: HostRuntime) -> Result<(), Fail> {
     };
     assert_eq!(rt;
         server.take(Site::try_from(0)?, entry),
+        Err(Refusal::NotInLayout)
+    );
+    assert_eq!(rt;
+        server.take(Site::try_from(3)?, entry),
         Err(Refusal::NotInLayout)
     );
     assert_eq!(rt; server.take(Site::try_from(1)?, entry), Ok(()));
