@@ -8,7 +8,12 @@ use Rattle.stamps.specs.declared.row.Row.{Row}
 -- one stamp: all four entries are equal
 abbrev pub one_kind : Kind
 one_kind =
-    record { columns = 1; Means = λ x. (x.site0 ≡ x.site1) × (x.site1 ≡ x.site2) × (x.site2 ≡ x.site3); floor = λ x. same (least x); lift = λ site s. same s }
+    record {
+      columns = 1;
+      Means = λ x. (x.site0 ≡ x.site1) × (x.site1 ≡ x.site2) × (x.site2 ≡ x.site3);
+      floor = λ x. same (least x);
+      lift = λ site s. same s;
+    }
 
 abbrev pub one_row : Stamp → Four
 one_row mark = same mark.value

@@ -93,7 +93,8 @@ snapshot_opened_at k g i x partition seat =
     cond (nat_le 4 seat) (Err NoneFree, g)
     (cond (nat_le (2 ^ 32 - 1) g.next_serial) (Err End, g) (
       Ok (record { seat = seat; serial = g.next_serial }),
-      with_seat (learning k g i x partition) seat (Some (record { session = i; serial = g.next_serial; cut = (hearing k g x partition).marks.stable })) (suc g.next_serial),
+      with_seat (learning k g i x partition) seat
+          (Some (record { session = i; serial = g.next_serial; cut = (hearing k g x partition).marks.stable })) (suc g.next_serial),
     ))
 
 -- deliver: the next entry that waits, if there is one, is taken, and then it is taken out of the outbox

@@ -90,7 +90,15 @@ pub record GroupBounded (k : Kind) (g : GroupState) : Type 0 where
 
 abbrev pub group_store : Rule → Kind → ℕ → Store
 group_store rule k sites =
-    record { State = GroupState; sites = sites; ask = asked rule k; Quiet = AllTaken; holds = held_at; may_see = may_see k; Bounded = GroupBounded k }
+    record {
+      State = GroupState;
+      sites = sites;
+      ask = asked rule k;
+      Quiet = AllTaken;
+      holds = held_at;
+      may_see = may_see k;
+      Bounded = GroupBounded k;
+    }
 
 -- A group with this clock rule and this kind of mark keeps the promises from its making on.
 abbrev pub GroupKeepsPromises : Rule → Kind → ℕ → ℕ → Type 0

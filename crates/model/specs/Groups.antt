@@ -34,7 +34,14 @@ new_session site = record { site = site; depends = same 0; knows = same 0 }
 -- a group as it is made
 abbrev pub made : ℕ → ℕ → GroupState
 made sites partitions =
-    record { sites = sites; partitions = partitions; server = λ site partition. fresh site sites; sessions = []; seats = None ∷ None ∷ None ∷ None ∷ []; next_serial = 0 }
+    record {
+      sites = sites;
+      partitions = partitions;
+      server = λ site partition. fresh site sites;
+      sessions = [];
+      seats = None ∷ None ∷ None ∷ None ∷ [];
+      next_serial = 0;
+    }
 
 -- every site has every partition, and such a pair is a server
 abbrev pub is_server : ℕ → ℕ → ℕ → ℕ → Bool

@@ -65,8 +65,10 @@ module _ (S : Store) where
     pub put_new : (session key kind amount stamp : ℕ) (x : Worth) → answer S r (put session key kind amount) ≡ Ok stamp →
         WasPut (history S r) (record { key = key; stamp = stamp; source = site_of (history S r) session }) x → ⊥
     -- what is shown of a key was put, with that key, value, stamp and source
-    pub get_honest : (session key : ℕ) (v : Shown) → answer S r (get session key) ≡ Ok (Some v) → WasPut (history S r) (put_shown key v) v.value
-    pub read_honest : (ticket : Ticket) (key : ℕ) (v : Shown) → answer S r (read ticket key) ≡ Ok (Some v) → WasPut (history S r) (put_shown key v) v.value
+    pub get_honest : (session key : ℕ) (v : Shown) → answer S r (get session key) ≡ Ok (Some v) →
+        WasPut (history S r) (put_shown key v) v.value
+    pub read_honest : (ticket : Ticket) (key : ℕ) (v : Shown) → answer S r (read ticket key) ≡ Ok (Some v) →
+        WasPut (history S r) (put_shown key v) v.value
     -- A get of a session that was opened is answered: none exactly when the site holds no version of that key that the
     -- session may see.
     pub get_answers : (session key : ℕ) → Opened session (history S r) → (o : Option Shown) × (answer S r (get session key) ≡ Ok o)

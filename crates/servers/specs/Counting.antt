@@ -13,4 +13,9 @@ one_if own sites site = cond (is_other own sites site) 1 0
 
 abbrev pub one_more : ℕ → ℕ → Four → Four
 one_more own sites x =
-    record { site0 = x.site0 + one_if own sites 0; site1 = x.site1 + one_if own sites 1; site2 = x.site2 + one_if own sites 2; site3 = x.site3 + one_if own sites 3 }
+    record {
+      site0 = x.site0 + one_if own sites 0;
+      site1 = x.site1 + one_if own sites 1;
+      site2 = x.site2 + one_if own sites 2;
+      site3 = x.site3 + one_if own sites 3;
+    }

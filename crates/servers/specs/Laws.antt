@@ -82,7 +82,8 @@ traffic own sites (m ∷ ms) = moved own sites (traffic own sites ms) m
 -- issued; and it has at most 16 entries still to take. No other site has any.
 pub record IsQueue (own sites : ℕ) (t : Traffic) : Type 0 where
   pub whole : (site : ℕ) → is_other own sites site ≡ true → t.taken site ++ t.queues site ≡ t.sent
-  pub done : (site : ℕ) → is_other own sites site ≡ true → (t.queues site ≡ [] → t.taken site ≡ t.sent) × (t.taken site ≡ t.sent → t.queues site ≡ [])
+  pub done : (site : ℕ) → is_other own sites site ≡ true →
+      (t.queues site ≡ [] → t.taken site ≡ t.sent) × (t.taken site ≡ t.sent → t.queues site ≡ [])
   pub short : (site : ℕ) → is_other own sites site ≡ true → length (t.queues site) ≤ 16
   pub none : (site : ℕ) → is_other own sites site ≡ false → t.queues site ≡ []
 

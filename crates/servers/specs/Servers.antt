@@ -57,7 +57,14 @@ first_received sites = record { site0 = first_entry sites 0; site1 = first_entry
 
 abbrev pub fresh : ℕ → ℕ → ServerState
 fresh site sites =
-    record { site = site; sites = sites; reading = 0; marks = record { received = first_received sites; reported = same 0; stable = same 0 }; held = []; waiting = none_waiting }
+    record {
+      site = site;
+      sites = sites;
+      reading = 0;
+      marks = record { received = first_received sites; reported = same 0; stable = same 0 };
+      held = [];
+      waiting = none_waiting;
+    }
 
 -- the server's last stamp
 abbrev pub last_of : ServerState → ℕ

@@ -1,5 +1,5 @@
 -- Plain numbers from outside: which are stamps, readings, sites and rows, and how the others are refused.
-use Rattle.std.specs.Prelude.{ℕ, ◌^◌, cond, ◌&&◌, List, Ok, Err, Result, nat_lt}
+use Rattle.std.specs.Prelude.{ℕ, ◌^◌, Bool, cond, ◌&&◌, List, Ok, Err, Result, nat_lt}
 use Rattle.stamps.specs.declared.refusal.Refusal.{Refusal}
 use Rattle.stamps.specs.declared.refusal.Refusal.TheVariants.{NotInLayout, Unlawful}
 use Rattle.stamps.specs.declared.stamp.Stamp.{Stamp}
@@ -25,8 +25,11 @@ abbrev pub row_numbers : Result Row Refusal → Result Four Refusal
 row_numbers (Ok r) = Ok (four r.entries)
 row_numbers (Err e) = Err e
 
+abbrev pub is_stamp : ℕ → Bool
+is_stamp n = nat_lt n (2 ^ 63)
+
 abbrev pub checked_stamp : ℕ → Result ℕ Refusal
-checked_stamp n = cond (nat_lt n (2 ^ 63)) (Ok n) (Err Unlawful)
+checked_stamp n = cond (is_stamp n) (Ok n) (Err Unlawful)
 
 abbrev pub checked_reading : ℕ → Result ℕ Refusal
 checked_reading n = cond (nat_lt n (2 ^ 47)) (Ok n) (Err Unlawful)
@@ -36,6 +39,5 @@ checked_site n = cond (nat_lt n 4) (Ok n) (Err NotInLayout)
 
 abbrev pub checked_row : List ℕ → Result Four Refusal
 checked_row xs =
-    cond (nat_lt (four xs).site0 (2 ^ 63) && (nat_lt (four xs).site1 (2 ^ 63) && (nat_lt (four xs).site2 (2 ^ 63) && nat_lt (four xs).site3 (2 ^ 63))))
-    (Ok (four xs))
-    (Err Unlawful)
+    let x = four xs in
+    cond (is_stamp x.site0 && (is_stamp x.site1 && (is_stamp x.site2 && is_stamp x.site3))) (Ok x) (Err Unlawful)

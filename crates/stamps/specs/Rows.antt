@@ -34,7 +34,12 @@ only site s =
 -- another stamp at one site
 abbrev pub with_entry : Four → ℕ → ℕ → Four
 with_entry x site s =
-    record { site0 = cond (site == 0) s x.site0; site1 = cond (site == 1) s x.site1; site2 = cond (site == 2) s x.site2; site3 = cond (site == 3) s x.site3 }
+    record {
+      site0 = cond (site == 0) s x.site0;
+      site1 = cond (site == 1) s x.site1;
+      site2 = cond (site == 2) s x.site2;
+      site3 = cond (site == 3) s x.site3;
+    }
 
 -- x covers y: it is at least as high at each entry
 abbrev pub Covers : Four → Four → Type 0
