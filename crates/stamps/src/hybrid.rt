@@ -1,18 +1,18 @@
 // The hybrid logical clock: the greatest time known, and a count within it.
 ghost use Rattle.std.specs.Prelude.{◌≡◌, ◌+◌, ◌^◌, ◌<◌, ◌≤◌};
-ghost use Rattle.stamps.specs.Clocks.{hybrid as hybridly, carried};
+ghost use Rattle.stamps.specs.Clocks.{hybrid as hybrid_rule, carried};
 ghost use Rattle.stamps.specs.Stamps.{stamp_of};
 ghost use Rattle.stamps.specs.BuiltRulesLawful.{hybrid_lawful};
 
 use crate::clock_rule::ClockRule;
 use crate::reading::Reading;
 use crate::refusal::Refusal;
-use crate::stamp::Stamp;
+use crate::stamp::{COUNTS, Stamp};
 
 pub struct Hybrid;
 
 impl ClockRule for Hybrid {
-    ghost answer = { hybridly };
+    ghost answer = { hybrid_rule };
 
     ghost lawful = { hybrid_lawful };
 
@@ -36,13 +36,9 @@ fn carry(time: u64, count: u64) -> Stamp
     requires { (stamp_of time count < 2 ^ 63) × (count ≤ 65536) }
     ensures { result.value ≡ carried time count }
 {
-    if count > 65_535 {
-        Stamp {
-            value: (time + 1) * 65_536,
-        }
+    if count >= COUNTS {
+        Stamp::of(time + 1, 0)
     } else {
-        Stamp {
-            value: time * 65_536 + count,
-        }
+        Stamp::of(time, count)
     }
 }

@@ -1,5 +1,5 @@
 // The raw rule: the physical clock alone, refused while it is not ahead.
-ghost use Rattle.stamps.specs.Clocks.{raw as rawly};
+ghost use Rattle.stamps.specs.Clocks.{raw as raw_rule};
 ghost use Rattle.stamps.specs.BuiltRulesLawful.{raw_lawful};
 
 use crate::clock_rule::ClockRule;
@@ -10,14 +10,12 @@ use crate::stamp::Stamp;
 pub struct Raw;
 
 impl ClockRule for Raw {
-    ghost answer = { rawly };
+    ghost answer = { raw_rule };
 
     ghost lawful = { raw_lawful };
 
     fn stamp(last: Stamp, reading: Reading, dependency: Stamp) -> Result<Stamp, Refusal> {
-        let made = Stamp {
-            value: reading.time * 65_536,
-        };
+        let made = Stamp::of(reading.time, 0);
         if made <= last || made <= dependency {
             return Err(Refusal::Early);
         }

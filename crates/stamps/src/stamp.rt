@@ -9,3 +9,5 @@ pub struct Stamp {
 }
 
 mod methods;
+
+pub(crate) use methods::COUNTS;

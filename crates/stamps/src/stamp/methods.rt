@@ -1,10 +1,13 @@
 // How a stamp is made and taken apart.
-ghost use Rattle.std.specs.Prelude.{◌≡◌};
-ghost use Rattle.stamps.specs.Stamps.{top_stamp, time_of, count_of};
+ghost use Rattle.std.specs.Prelude.{◌≡◌, ◌^◌, ◌<◌};
+ghost use Rattle.stamps.specs.Stamps.{top_stamp, stamp_of, time_of, count_of};
 ghost use Rattle.stamps.specs.Checks.{stamp_number, checked_stamp};
 
 use super::Stamp;
 use crate::refusal::Refusal;
+
+// So many stamps have one time.
+pub(crate) const COUNTS: u64 = 65_536;
 
 // The stamp of a plain number; refused from 2^63 on.
 impl TryFrom<u64> for Stamp {
@@ -21,6 +24,15 @@ impl TryFrom<u64> for Stamp {
 }
 
 impl Stamp {
+    pub(crate) fn of(time: u64, count: u64) -> Stamp
+        requires { stamp_of time count < 2 ^ 63 }
+        ensures { result.value ≡ stamp_of time count }
+    {
+        Stamp {
+            value: time * COUNTS + count,
+        }
+    }
+
     // The stamp 0.0, below which there is none.
     pub fn zero() -> Stamp
         ensures { result.value ≡ 0 }
@@ -46,12 +58,12 @@ impl Stamp {
     pub fn time(self) -> u64
         ensures { result ≡ time_of self.value }
     {
-        self.value / 65_536
+        self.value / COUNTS
     }
 
     pub fn count(self) -> u64
         ensures { result ≡ count_of self.value }
     {
-        self.value % 65_536
+        self.value % COUNTS
     }
 }
