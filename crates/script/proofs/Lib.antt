@@ -1,4 +1,5 @@
 pub mod Counts
+pub mod FirstBytes
 pub mod Answered
 pub mod Lengths
 pub mod LinesLeft

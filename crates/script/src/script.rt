@@ -18,4 +18,5 @@ pub type Script<'a> = ScriptOver<'a, AnyGroup>;
 mod begun;
 mod calls;
 
-pub(crate) use begun::{MOST_SCRIPT_BYTES, first_bytes, script_of};
+pub use begun::MOST_SCRIPT_BYTES;
+pub(crate) use begun::{first_bytes, script_of};
