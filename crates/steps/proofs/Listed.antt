@@ -1,29 +1,32 @@
 -- The first 65,535 bytes of what a reader gives, and their listing.
-use Rattle.std.proofs.Common.{◌≡◌, ℕ, List, [], ◌++◌, take, Some, None, Option, IfSome, ap, subst, ◌∙◌}
+use Rattle.std.proofs.Common.{◌≡◌, ℕ, List, [], ◌++◌, take, Some, None, Ok, Err, Option, Result, IfSome, OnOk, ap, subst, ◌∙◌}
 use Rattle.std.specs.Io.KnownBytes.{Appends}
 use Rattle.std.specs.Option.{option_map}
 use Rattle.script.specs.Laws.{ListingLaw}
 use Rattle.script.specs.Scripts.{listing}
 use Rattle.script.proofs.FirstBytes.{law_same, listing_same}
 
--- what is read of known bytes
-abbrev pub Read : Option (List ℕ) → List ℕ → Type 0
-Read known script = IfSome (option_map (take 65535) known) (λ bytes. script ≡ bytes)
+-- what is read up to a limit of known bytes is the first of them
+pub first_read : (known : Option (List ℕ)) (limit : ℕ) (before script : List ℕ) → limit ≡ 65535 → before ≡ []
+    → IfSome (option_map (take limit) known) (λ bytes. script ≡ before ++ bytes) → IfSome known (λ input. script ≡ take 65535 input)
+first_read None limit before script is none reads = tt
+first_read (Some input) limit before script is none reads = rw (is, none) at reads
 
-pub is_read : (given known : Option (List ℕ)) (limit : ℕ) (before held script : List ℕ) → limit ≡ 65535 → given ≡ known → before ≡ [] → script ≡ held
-    → IfSome (option_map (take limit) given) (λ bytes. held ≡ before ++ bytes) → Read known script
-is_read given known limit before held script is same none holds reads = rw (is, same, none, ← holds) at reads
-
--- the listing of what was read is that of all bytes
-pub listing_written : (known before after : Option (List ℕ)) (script text : List ℕ) → Read known script → text ≡ listing script → Appends before after text
-    → IfSome known (λ input. Appends before after (listing input))
-listing_written None before after script text reads lists writes = tt
-listing_written (Some input) before after script text reads lists writes =
-    subst (Appends before after) (lists ∙ ap listing reads ∙ listing_same input) writes
+-- the listing of these bytes is that of all
+pub listing_written : {T E : Type 0} (result : Result T E) (known before after : Option (List ℕ)) (held script : List ℕ)
+    → IfSome known (λ input. held ≡ take 65535 input) → script ≡ held → OnOk result (Appends before after (listing script))
+    → OnOk result (IfSome known (λ input. Appends before after (listing input)))
+listing_written (Err e) known before after held script reads holds writes = tt
+listing_written (Ok x) None before after held script reads holds writes = tt
+listing_written (Ok x) (Some input) before after held script reads holds writes =
+    subst (Appends before after) (ap listing (holds ∙ reads) ∙ listing_same input) writes
 
 -- and so is its law
-pub law_kept : (known : Option (List ℕ)) (script text : List ℕ) → Read known script → text ≡ listing script → ListingLaw script text
-    → IfSome known (λ input. ListingLaw input (listing input))
-law_kept None script text reads lists law = tt
-law_kept (Some input) script text reads lists law =
-    subst (ListingLaw input) (lists ∙ ap listing reads ∙ listing_same input) (law_same input text (subst (λ bytes. ListingLaw bytes text) reads law))
+pub law_kept : {T E : Type 0} (result : Result T E) (known : Option (List ℕ)) (held script : List ℕ)
+    → IfSome known (λ input. held ≡ take 65535 input) → script ≡ held → OnOk result (ListingLaw script (listing script))
+    → OnOk result (IfSome known (λ input. ListingLaw input (listing input)))
+law_kept (Err e) known held script reads holds law = tt
+law_kept (Ok x) None held script reads holds law = tt
+law_kept (Ok x) (Some input) held script reads holds law =
+    let first : ListingLaw (take 65535 input) (listing (take 65535 input)) = subst (λ bytes. ListingLaw bytes (listing bytes)) (holds ∙ reads) law in
+    subst (ListingLaw input) (listing_same input) (law_same input (listing (take 65535 input)) first)

@@ -1,7 +1,7 @@
 // Reads a step script from standard input and prints its listing.
 #![tactic(auto)]
 
-ghost use Rattle.std.specs.Prelude.{IfSome, OnOk};
+ghost use Rattle.std.specs.Prelude.{◌≡◌, IfOk, IfSome, OnOk, take};
 ghost use Rattle.std.specs.Io.KnownBytes.{Appends};
 ghost use Rattle.script.specs.Laws.{ListingLaw};
 ghost use Rattle.script.specs.Scripts.{listing};
@@ -9,6 +9,7 @@ ghost use Rattle.script.specs.Scripts.{listing};
 use script::list::list;
 use script::script::MOST_SCRIPT_BYTES;
 use std::alloc::Global;
+use std::io;
 use std::io::{Read, Write};
 
 fn main(rt: HostRuntime) -> anyhow::Result<()> {
@@ -20,10 +21,24 @@ fn run<R: Read, W: Write>(heap: Global, reader: &mut R, writer: &mut W) -> anyho
     ensures value { OnOk result (IfSome (R.remaining reader.old) (λ input. Appends (W.contents writer.old) (W.contents writer.new) (listing input))) }
     ensures law { OnOk result (IfSome (R.remaining reader.old) (λ input. ListingLaw input (listing input))) }
 {
+    let script = read_script(heap, reader)?;
+    write_listing(heap, &script, writer)
+}
+
+// The bytes that are a script's. What lies past them is not read.
+fn read_script<R: Read>(heap: Global, reader: &mut R) -> io::Result<Vec<u8>>
+    ensures { IfOk result (λ script. IfSome (R.remaining reader.old) (λ input. script.items ≡ take 65535 input)) }
+{
     let mut script = Vec::new(heap);
-    // What lies past the first 65,535 bytes is no part of a script, and is not read.
     reader.take(MOST_SCRIPT_BYTES as u64).read_to_end(&mut script)?;
-    let listing = list(heap, &script)?;
+    Ok(script)
+}
+
+fn write_listing<W: Write>(heap: Global, script: &[u8], writer: &mut W) -> anyhow::Result<()>
+    ensures value { OnOk result (Appends (W.contents writer.old) (W.contents writer.new) (listing script.now)) }
+    ensures law { OnOk result (ListingLaw script.now (listing script.now)) }
+{
+    let listing = list(heap, script)?;
     writer.write_all(&listing)?;
     Ok(())
 }
