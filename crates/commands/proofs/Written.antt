@@ -7,7 +7,7 @@ use Rattle.stamps.specs.declared.refusal.Refusal.{Refusal}
 use Rattle.commands.specs.declared.command.Command.{Command}
 use Rattle.commands.specs.declared.command.Command.TheVariants.{Layout, OpenSession, Tell, Put, Get, Heartbeat, Deliver, Report, Stabilise, Tidy, Lead, View}
 use Rattle.commands.specs.Commands.{Form, one, deliver_form, form_of, formed, get_form, layout_form, open_session_form, put_form, read_command, read_form, server_form, tell_form, view_form}
-use Rattle.commands.specs.Writing.{Bytes, Lawful, written}
+use Rattle.commands.specs.Writing.{Bytes, Fits, written}
 use Rattle.commands.specs.Laws.{ReaderLaw}
 use Rattle.commands.proofs.Formed.{formed_ok}
 use Rattle.commands.proofs.Numbers.{AreBytes, each_byte, four_read, four_written, items, items_bytes, six_read, six_written, two_read, two_written}
@@ -20,7 +20,7 @@ formed_front f front rest e =
     cond-true (leb f.width (length (front ++ rest))) _ _ (le-leb _ _ (omega (arith, length-append front rest)))
     ∙ ap (λ r. Ok (f.make (front ++ rest), r)) (rw e (drop-append_seam front rest))
 
-pub written_read : (c : Command) (rest : List ℕ) → Lawful c → read_command (written c ++ rest) ≡ Ok (c, rest)
+pub written_read : (c : Command) (rest : List ℕ) → Fits c → read_command (written c ++ rest) ≡ Ok (c, rest)
 written_read (Layout sites partitions clock marks) rest h = formed_front layout_form (sites ∷ partitions ∷ clock ∷ marks ∷ []) rest refl
 written_read (OpenSession site) rest h = formed_front open_session_form (site ∷ []) rest refl
 written_read (Tell site partition time) rest h =
@@ -51,7 +51,7 @@ items_rest bytes i (suc n) h =
 
 -- the command of a form is written as the letter and the operands
 abbrev WritesBack : ℕ → Form → Type 0
-WritesBack letter f = (bytes : List ℕ) → Bytes bytes → Lawful (f.make bytes) × (written (f.make bytes) ≡ letter ∷ items bytes 0 f.width)
+WritesBack letter f = (bytes : List ℕ) → Bytes bytes → Fits (f.make bytes) × (written (f.make bytes) ≡ letter ∷ items bytes 0 f.width)
 
 layout_written : WritesBack 76 layout_form
 layout_written bytes h = ((h 0, h 1, h 2, h 3), refl)
@@ -109,9 +109,9 @@ form_writes letter =
     (by_letter letter 81 (server_form Lead) _ (λ bytes h. ((h 0, h 1), refl))
     (by_letter letter 86 view_form None view_written tt)))))))))))
 
--- what was read is a lawful command, and the bytes are its bytes and then the rest
+-- the operands of what was read fit, and the bytes are its bytes and then the rest
 abbrev WasWritten : List ℕ → Command × List ℕ → Type 0
-WasWritten bytes p = Lawful p.0 × (bytes ≡ written p.0 ++ p.1)
+WasWritten bytes p = Fits p.0 × (bytes ≡ written p.0 ++ p.1)
 
 formed_written : (letter : ℕ) (f : Form) (bytes : List ℕ) (p : Command × List ℕ) → WritesBack letter f → Bytes bytes
     → formed f bytes ≡ Ok p → WasWritten (letter ∷ bytes) p
@@ -126,27 +126,17 @@ read_form_written : (letter : ℕ) (f : Option Form) (bytes : List ℕ) (p : Com
 read_form_written letter None bytes p writes h e = absurd cc
 read_form_written letter (Some f) bytes p writes h e = formed_written letter f bytes p writes h e
 
-pub read_written : (bytes : List ℕ) (p : Command × List ℕ) → Bytes bytes → read_command bytes ≡ Ok p → Lawful p.0 × (bytes ≡ written p.0 ++ p.1)
+pub read_written : (bytes : List ℕ) (p : Command × List ℕ) → Bytes bytes → read_command bytes ≡ Ok p → Fits p.0 × (bytes ≡ written p.0 ++ p.1)
 read_written [] p h e = absurd cc
 read_written (letter ∷ bytes) p h e = read_form_written letter (form_of letter) bytes p (form_writes letter) (λ i. h (suc i)) e
 
 -- ---- what is written is bytes
 
-are_bytes : (c : Command) → Lawful c → AreBytes (written c)
+are_bytes : (c : Command) → Fits c → AreBytes (written c)
 are_bytes (Layout _ _ _ _) h = search rules
-are_bytes (OpenSession _) h = search rules
-are_bytes (Tell _ _ _) h = search rules
-are_bytes (Put _ _ _ _) h = search rules
-are_bytes (Get _ _) h = search rules
-are_bytes (Heartbeat _ _) h = search rules
-are_bytes (Deliver _ _ _) h = search rules
-are_bytes (Report _ _) h = search rules
-are_bytes (Stabilise _ _) h = search rules
-are_bytes (Tidy _ _) h = search rules
-are_bytes (Lead _ _) h = search rules
-are_bytes (View _ _ _ _) h = search rules
+are_bytes command h = search rules
 
-pub written_bytes : (c : Command) → Lawful c → Bytes (written c)
+pub written_bytes : (c : Command) → Fits c → Bytes (written c)
 written_bytes c h = each_byte (written c) (are_bytes c h)
 
 -- ---- the law
@@ -154,6 +144,6 @@ written_bytes c h = each_byte (written c) (are_bytes c h)
 pub reader_law : (script : List ℕ) (answer : Result (Command × List ℕ) Refusal) → Bytes script → answer ≡ read_command script → ReaderLaw script answer
 reader_law script answer h e = record {
   accepts = λ c rest is. read_written script (c, rest) h (sym e ∙ is);
-  reads = λ c rest lawful is. e ∙ ap read_command is ∙ written_read c rest lawful;
+  reads = λ c rest fits is. e ∙ ap read_command is ∙ written_read c rest fits;
   bytes = written_bytes;
 }

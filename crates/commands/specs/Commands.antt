@@ -1,5 +1,5 @@
 -- Commands: a letter, then operands of fixed width, high byte first.
-use Rattle.std.specs.Prelude.{◌≡◌, ℕ, ◌+◌, ◌*◌, cond, List, [], ◌∷◌, length, drop, Some, None, Ok, Err, Option, Result, MatchResult, IsOkAnd, ◌==◌, nat_le, slice_index}
+use Rattle.std.specs.Prelude.{ℕ, ◌+◌, ◌*◌, cond, List, [], ◌∷◌, length, drop, Some, None, Ok, Err, Option, Result, ◌==◌, nat_le, slice_index}
 use Rattle.std.specs.Borrow.{Bor}
 use Rattle.stamps.specs.declared.refusal.Refusal.{Refusal}
 use Rattle.stamps.specs.declared.refusal.Refusal.TheVariants.{ShortCommand, UnknownLetter}
@@ -45,10 +45,6 @@ deliver_form = record { width = 3; make = λ b. Deliver (one b 0) (one b 1) (one
 abbrev pub view_form : Form
 view_form = record { width = 6; make = λ b. View (one b 0) (one b 1) (two b 2) (two b 4) }
 
--- a site and a partition
-abbrev pub pair : List ℕ → ℕ × ℕ
-pair bytes = (one bytes 0, one bytes 1)
-
 -- a command of one server: its site and its partition
 abbrev pub server_form : (ℕ → ℕ → Command) → Form
 server_form command = record { width = 2; make = λ b. command (one b 0) (one b 1) }
@@ -81,13 +77,9 @@ form_of letter =
     -- V
     (cond (letter == 86) (Some view_form) None)))))))))))
 
--- what is made of as many bytes as the width says, and the bytes after them, if there are enough
-abbrev pub taken : {A : Type 0} → ℕ → (List ℕ → A) → List ℕ → Result (A × List ℕ) Refusal
-taken width make bytes = cond (nat_le width (length bytes)) (Ok (make bytes, drop width bytes)) (Err ShortCommand)
-
--- the command that stands before the rest of the bytes
+-- from the bytes after a letter: the command of its form, and the bytes after its operands
 abbrev pub formed : Form → List ℕ → Result (Command × List ℕ) Refusal
-formed f bytes = taken f.width f.make bytes
+formed f bytes = cond (nat_le f.width (length bytes)) (Ok (f.make bytes, drop f.width bytes)) (Err ShortCommand)
 
 abbrev pub read_form : Option Form → List ℕ → Result (Command × List ℕ) Refusal
 read_form None bytes = Err UnknownLetter
@@ -99,10 +91,6 @@ read_command [] = Err ShortCommand
 read_command (letter ∷ bytes) = read_form (form_of letter) bytes
 
 -- what was read, with the bytes that the reference to the rest holds
-abbrev pub rested : {A : Type 0} → Result (A × Bor (List ℕ)) Refusal → Result (A × List ℕ) Refusal
+abbrev pub rested : Result (Command × Bor (List ℕ)) Refusal → Result (Command × List ℕ) Refusal
 rested (Ok p) = Ok (p.0, p.1.now)
 rested (Err why) = Err why
-
--- what is read of a site and a partition, by what can be made of them, and the bytes after them
-abbrev pub ServerRead : (ℕ → ℕ → Command → Type 0) → List ℕ → Result (Command × List ℕ) Refusal → Type 0
-ServerRead makes bytes answer = MatchResult (taken 2 pair bytes) (λ p. IsOkAnd answer (λ q. makes p.0.0 p.0.1 q.0 × (q.1 ≡ p.1))) (λ why. answer ≡ Err why)

@@ -4,20 +4,20 @@ use Rattle.std.specs.Int.{bytes_high_first}
 use Rattle.commands.specs.declared.command.Command.{Command}
 use Rattle.commands.specs.declared.command.Command.TheVariants.{Layout, OpenSession, Tell, Put, Get, Heartbeat, Deliver, Report, Stabilise, Tidy, Lead, View}
 
--- each operand is in its range
-abbrev pub Lawful : Command → Type 0
-Lawful (Layout sites partitions clock marks) = (sites < 2 ^ 8) × (partitions < 2 ^ 8) × (clock < 2 ^ 8) × (marks < 2 ^ 8)
-Lawful (OpenSession site) = site < 2 ^ 8
-Lawful (Tell site partition time) = (site < 2 ^ 8) × (partition < 2 ^ 8) × (time < 2 ^ 48)
-Lawful (Put session key kind amount) = (session < 2 ^ 8) × (key < 2 ^ 16) × (kind < 2 ^ 8) × (amount < 2 ^ 32)
-Lawful (Get session key) = (session < 2 ^ 8) × (key < 2 ^ 16)
-Lawful (Heartbeat site partition) = (site < 2 ^ 8) × (partition < 2 ^ 8)
-Lawful (Deliver from to partition) = (from < 2 ^ 8) × (to < 2 ^ 8) × (partition < 2 ^ 8)
-Lawful (Report site partition) = (site < 2 ^ 8) × (partition < 2 ^ 8)
-Lawful (Stabilise site partition) = (site < 2 ^ 8) × (partition < 2 ^ 8)
-Lawful (Tidy site partition) = (site < 2 ^ 8) × (partition < 2 ^ 8)
-Lawful (Lead site partition) = (site < 2 ^ 8) × (partition < 2 ^ 8)
-Lawful (View session partition first second) = (session < 2 ^ 8) × (partition < 2 ^ 8) × (first < 2 ^ 16) × (second < 2 ^ 16)
+-- each operand fits its width
+abbrev pub Fits : Command → Type 0
+Fits (Layout sites partitions clock marks) = (sites < 2 ^ 8) × (partitions < 2 ^ 8) × (clock < 2 ^ 8) × (marks < 2 ^ 8)
+Fits (OpenSession site) = site < 2 ^ 8
+Fits (Tell site partition time) = (site < 2 ^ 8) × (partition < 2 ^ 8) × (time < 2 ^ 48)
+Fits (Put session key kind amount) = (session < 2 ^ 8) × (key < 2 ^ 16) × (kind < 2 ^ 8) × (amount < 2 ^ 32)
+Fits (Get session key) = (session < 2 ^ 8) × (key < 2 ^ 16)
+Fits (Heartbeat site partition) = (site < 2 ^ 8) × (partition < 2 ^ 8)
+Fits (Deliver from to partition) = (from < 2 ^ 8) × (to < 2 ^ 8) × (partition < 2 ^ 8)
+Fits (Report site partition) = (site < 2 ^ 8) × (partition < 2 ^ 8)
+Fits (Stabilise site partition) = (site < 2 ^ 8) × (partition < 2 ^ 8)
+Fits (Tidy site partition) = (site < 2 ^ 8) × (partition < 2 ^ 8)
+Fits (Lead site partition) = (site < 2 ^ 8) × (partition < 2 ^ 8)
+Fits (View session partition first second) = (session < 2 ^ 8) × (partition < 2 ^ 8) × (first < 2 ^ 16) × (second < 2 ^ 16)
 
 -- the code of the letter, then the operands, the high byte of a number first
 abbrev pub written : Command → List ℕ

@@ -1,6 +1,6 @@
 // Bytes to commands.
-ghost use Rattle.std.specs.Prelude.{◌≡◌};
-ghost use Rattle.commands.specs.Commands.{deliver_form, form_of, formed, get_form, layout_form, open_session_form, put_form, read_command, read_form, rested, tell_form, view_form, ServerRead};
+ghost use Rattle.std.specs.Prelude.{◌≡◌, ◌<◌, ◌≤◌, length, drop, IsOkAnd};
+ghost use Rattle.commands.specs.Commands.{deliver_form, form_of, formed, get_form, layout_form, open_session_form, one, put_form, read_command, read_form, rested, tell_form, view_form};
 ghost use Rattle.commands.specs.Laws.{ReaderLaw};
 
 use crate::command::Command;
@@ -173,7 +173,8 @@ fn read_server<F: FnOnce(u8, u8) -> Command>(
     command: F,
 ) -> Result<(Command, &[u8]), Refusal>
     requires { F.IsAlwaysCallable command }
-    ensures { ServerRead (F.post command) bytes.now (rested result) }
+    ensures short { length bytes.now < 2 → rested result ≡ Err Refusal.ShortCommand }
+    ensures read { 2 ≤ length bytes.now → IsOkAnd (rested result) (λ p. F.post command (one bytes.now 0) (one bytes.now 1) p.0 × (p.1 ≡ drop 2 bytes.now)) }
 {
     let [site, partition, rest @ ..] = bytes else {
         return Err(Refusal::ShortCommand);

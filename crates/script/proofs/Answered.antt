@@ -9,7 +9,7 @@ use Rattle.stamps.specs.declared.refusal.Refusal.TheVariants.{ShortCommand}
 use Rattle.commands.specs.declared.command.Command.{Command}
 use Rattle.commands.specs.declared.command.Command.TheVariants.{Layout, OpenSession, Tell, Put, Get, Heartbeat, Deliver, Report, Stabilise, Tidy, Lead, View}
 use Rattle.commands.specs.Commands.{Form, form_of, read_command, read_form}
-use Rattle.commands.specs.Writing.{Bytes, Lawful, written}
+use Rattle.commands.specs.Writing.{Bytes, Fits, written}
 use Rattle.commands.proofs.Shorter.{read_shorter}
 use Rattle.commands.proofs.Written.{read_written, written_read}
 use Rattle.script.specs.Answers.{Said, refused}
@@ -46,7 +46,7 @@ read_refused letter bytes why = by_form (form_of letter)
         (λ _ e. absurd cc) (λ _ e. cc) e
 
 -- what begins no command is not read
-not_read : (rest : List ℕ) → Bytes rest → ((command : Command) (after : List ℕ) → Lawful command → rest ≡ written command ++ after → ⊥)
+not_read : (rest : List ℕ) → Bytes rest → ((command : Command) (after : List ℕ) → Fits command → rest ≡ written command ++ after → ⊥)
     → (why : Refusal) × (read_command rest ≡ Err why)
 not_read rest h ends = by_read (read_command rest) refl
   where
@@ -69,7 +69,7 @@ lines_end s letter rest store why some first is =
     ∙ ap (λ more. line_of (s.lines + 1) letter (refused why) ∷ more) (lines_none (numbered letter (ended_by ended why)).1 refl)
 
 -- the lines of a rest that begins no command
-rest_lines : (s : ScriptState Store) (rest : List ℕ) → s.rest ≡ rest → Bytes rest → ((command : Command) (after : List ℕ) → Lawful command → rest ≡ written command ++ after → ⊥)
+rest_lines : (s : ScriptState Store) (rest : List ℕ) → s.rest ≡ rest → Bytes rest → ((command : Command) (after : List ℕ) → Fits command → rest ≡ written command ++ after → ⊥)
     → lines_left s ≡ listed_lines (s.lines + 1) (rest_answers rest)
 rest_lines s [] is h ends = lines_none s (ap length is)
 rest_lines s (b ∷ bytes) is h ends =
@@ -82,10 +82,10 @@ bytes_after : (front rest : List ℕ) → Bytes (front ++ rest) → Bytes rest
 bytes_after front rest h i = let at = get_or-append-add front rest i 0 in let byte = h (length front + i) in omega arith
 
 -- the lines of a command that is read, and of what comes after it
-command_lines : (command : Command) (left : List ℕ) (s : ScriptState Store) (more : Store → List (ℕ × Said)) → Lawful command → s.rest ≡ written command ++ left
+command_lines : (command : Command) (left : List ℕ) (s : ScriptState Store) (more : Store → List (ℕ × Said)) → Fits command → s.rest ≡ written command ++ left
     → ((store : Store) → lines_left (record { rest = left; lines = s.lines + 1; group = store }) ≡ listed_lines (s.lines + 1 + 1) (more store))
     → lines_left s ≡ listed_lines (s.lines + 1) (answers_from (letter_of command) more (obeyed s.group command))
-command_lines command left s more lawful is then = by_outcome (obeyed s.group command) refl
+command_lines command left s more fits is then = by_outcome (obeyed s.group command) refl
   where
     by_answer : (outcome : Result Said Refusal × Store) → 0 < length s.rest → get_or s.rest 0 0 ≡ letter_of command → stepped obeyed s ≡ stepped_to s left outcome
         → lines_left s ≡ listed_lines (s.lines + 1) (answers_from (letter_of command) more outcome)
@@ -98,7 +98,7 @@ command_lines command left s more lawful is then = by_outcome (obeyed s.group co
     by_outcome outcome e =
         let some : 0 < length s.rest = omega (arith, ap length is, length-append (written command) left, some_written command) in
         let first : get_or s.rest 0 0 ≡ letter_of command = ap (λ r. get_or r 0 0) is ∙ get_or_append_left (written command) left 0 0 (some_written command) in
-        let step = sym (read_obeyed obeyed s command left outcome (sym (ap read_command is ∙ written_read command left lawful)) e) in
+        let step = sym (read_obeyed obeyed s command left outcome (sym (ap read_command is ∙ written_read command left fits)) e) in
         by_answer outcome some first step
 
 -- the lines of commands and a rest are those of what they answer
@@ -108,9 +108,9 @@ answered_lines [] rest s i h = rest_lines s rest i.bytes (let same : Bytes rest 
 answered_lines (command ∷ commands) rest s i h =
     let left = concat (map written commands) ++ rest in
     let whole : s.rest ≡ written command ++ left = i.bytes ∙ append_assoc (written command) (concat (map written commands)) rest in
-    let later : IsScript left commands rest = record { lawful = All-tail Lawful command commands i.lawful; bytes = refl; ends = i.ends } in
+    let later : IsScript left commands rest = record { fits = All-tail Fits command commands i.fits; bytes = refl; ends = i.ends } in
     let all : Bytes (written command ++ left) = rw (← whole) h in
-    command_lines command left s (λ store. answers store commands rest) (All-head Lawful command commands i.lawful) whole
+    command_lines command left s (λ store. answers store commands rest) (All-head Fits command commands i.fits) whole
     (λ store. answered_lines commands rest (record { rest = left; lines = s.lines + 1; group = store }) later (bytes_after (written command) left all))
 
 -- every script is commands and a rest
@@ -122,7 +122,7 @@ every_script (suc n) script small h = by_read (read_command script) refl (every_
         → ((left : List ℕ) → length left < n → Bytes left → (commands : List Command) × (rest : List ℕ) × IsScript left commands rest)
         → (commands : List Command) × (rest : List ℕ) × IsScript script commands rest
     by_read (Err why) e more =
-        ([], script, record { lawful = All-nil Lawful; bytes = refl; ends = λ command after lawful is. let ok = ap read_command is ∙ written_read command after lawful in absurd (cc (ok, e)) })
+        ([], script, record { fits = All-nil Fits; bytes = refl; ends = λ command after fits is. let ok = ap read_command is ∙ written_read command after fits in absurd (cc (ok, e)) })
     by_read (Ok p) e more =
         let w = read_written script p h e in
         let less = read_shorter script p (sym e) in
@@ -131,7 +131,7 @@ every_script (suc n) script small h = by_read (read_command script) refl (every_
           p.0 ∷ next.0,
           next.1,
           record {
-            lawful = All-cons Lawful p.0 next.0 w.0 next.2.lawful;
+            fits = All-cons Fits p.0 next.0 w.0 next.2.fits;
             bytes = w.1 ∙ ap (λ r. written p.0 ++ r) next.2.bytes ∙ sym (append_assoc (written p.0) (concat (map written next.0)) next.1);
             ends = next.2.ends;
           },

@@ -7,7 +7,7 @@ use Rattle.model.specs.Groups.{GroupState}
 use Rattle.commands.specs.declared.command.Command.{Command}
 use Rattle.commands.specs.declared.command.Command.TheVariants.{Layout}
 use Rattle.commands.specs.Commands.{read_command}
-use Rattle.commands.specs.Writing.{Lawful, written}
+use Rattle.commands.specs.Writing.{Fits, written}
 use Rattle.commands.proofs.Written.{written_read}
 use Rattle.script.specs.declared.choice.Clock.{Clock}
 use Rattle.script.specs.declared.choice.Marks.{Marks}
@@ -22,9 +22,9 @@ use Rattle.script.proofs.Stepping.{next_is, read_obeyed}
 -- after its layout a script stands where the listing over the group that was made begins
 begins : (sites partitions clock_letter marks_letter : ℕ) (bytes : List ℕ) (clock : Clock) (marks : Marks) (g : GroupState) →
     let layout = Layout sites partitions clock_letter marks_letter in
-    Lawful layout → made_store layout ≡ Ok (made clock marks g)
+    Fits layout → made_store layout ≡ Ok (made clock marks g)
     → next obeyed (begun (written layout ++ bytes)) ≡ Some (line_of 1 76 done, as_script clock marks (after_layout g bytes))
-begins sites partitions clock_letter marks_letter bytes clock marks g lawful makes =
+begins sites partitions clock_letter marks_letter bytes clock marks g fits makes =
     sym (next_is obeyed s 76 (omega (arith, long)) (ap (λ r. get_or r 0 0) is)) ∙ ap (λ o. Some (numbered 76 o)) (sym step)
   where
     layout : Command
@@ -43,7 +43,7 @@ begins sites partitions clock_letter marks_letter bytes clock marks g lawful mak
     long = ap length is ∙ length-append (written layout) rest
 
     step : stepped_to s rest (Ok done, made clock marks g) ≡ stepped obeyed s
-    step = read_obeyed obeyed s layout rest (Ok done, made clock marks g) (sym (ap read_command is ∙ written_read layout rest lawful)) (sym (ap opens makes))
+    step = read_obeyed obeyed s layout rest (Ok done, made clock marks g) (sym (ap read_command is ∙ written_read layout rest fits)) (sym (ap opens makes))
 
 -- a script that has made its group goes on as the listing over this group
 goes_on : (clock : Clock) (marks : Marks) (s : ScriptState GroupState)

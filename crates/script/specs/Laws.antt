@@ -5,7 +5,7 @@ use Rattle.stamps.specs.declared.refusal.Refusal.{Refusal}
 use Rattle.stamps.specs.declared.refusal.Refusal.TheVariants.{ShortCommand, UnknownLetter}
 use Rattle.commands.specs.declared.command.Command.{Command}
 use Rattle.commands.specs.Commands.{Form, form_of}
-use Rattle.commands.specs.Writing.{Lawful, written}
+use Rattle.commands.specs.Writing.{Fits, written}
 use Rattle.script.specs.Answers.{Said, refused}
 use Rattle.script.specs.Lines.{line_of}
 use Rattle.script.specs.Stores.{Store, unmade, obeyed}
@@ -47,11 +47,11 @@ lines_for commands rest = listed_lines 1 (answers unmade commands rest)
 abbrev pub EachShort : List (List ℕ) → Type 0
 EachShort lines = All (λ line. length line ≤ 96) lines
 
--- A script that is lawful commands, one after the other, and a rest that begins no command.
+-- A script that is commands whose operands fit, one after the other, and a rest that begins no command.
 pub record IsScript (script : List ℕ) (commands : List Command) (rest : List ℕ) : Type 0 where
-  pub lawful : All Lawful commands
+  pub fits : All Fits commands
   pub bytes : script ≡ concat (map written commands) ++ rest
-  pub ends : (command : Command) (after : List ℕ) → Lawful command → rest ≡ written command ++ after → ⊥
+  pub ends : (command : Command) (after : List ℕ) → Fits command → rest ≡ written command ++ after → ⊥
 
 -- A text is the listing of bytes, of which the first 65,535 are a script.
 pub record ListingLaw (bytes text : List ℕ) : Type 0 where

@@ -2,7 +2,7 @@
 use Rattle.std.specs.Prelude.{◌≡◌, ℕ, List, ◌++◌, take, Some, None, Ok, Option}
 use Rattle.model.specs.Groups.{GroupState}
 use Rattle.commands.specs.declared.command.Command.TheVariants.{Layout}
-use Rattle.commands.specs.Writing.{Lawful, written}
+use Rattle.commands.specs.Writing.{Fits, written}
 use Rattle.script.specs.declared.choice.Clock.{Clock}
 use Rattle.script.specs.declared.choice.Marks.{Marks}
 use Rattle.script.specs.Answers.{done}
@@ -28,7 +28,7 @@ pub record GoesOnAsScript : Type 0 where
   -- after its layout, whose letter is 76, it stands where that listing begins
   pub begins : (sites partitions clock_letter marks_letter : ℕ) (bytes : List ℕ) (clock : Clock) (marks : Marks) (g : GroupState) →
       let layout = Layout sites partitions clock_letter marks_letter in
-      Lawful layout → made_store layout ≡ Ok (made clock marks g)
+      Fits layout → made_store layout ≡ Ok (made clock marks g)
       → next obeyed (begun (written layout ++ bytes)) ≡ Some (line_of 1 76 done, as_script clock marks (after_layout g bytes))
   -- then they go on alike
   pub goes_on : (clock : Clock) (marks : Marks) (s : ScriptState GroupState)
