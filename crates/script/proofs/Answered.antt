@@ -7,7 +7,7 @@ use Rattle.std.proofs.lemmas.List.Elements.{All-cons, All-head, All-nil, All-tai
 use Rattle.stamps.specs.declared.refusal.Refusal.{Refusal}
 use Rattle.stamps.specs.declared.refusal.Refusal.TheVariants.{ShortCommand}
 use Rattle.commands.specs.declared.command.Command.{Command}
-use Rattle.commands.specs.declared.command.Command.TheVariants.{Layout, OpenSession, Tell, Put, Get, Heartbeat, Deliver, Report, Stabilise, Tidy, Lead, View}
+use Rattle.commands.specs.declared.command.Command.TheVariants.{Layout}
 use Rattle.commands.specs.Commands.{Form, form_of, read_command, read_form}
 use Rattle.commands.specs.Writing.{Bytes, Fits, written}
 use Rattle.commands.proofs.Shorter.{read_shorter}
@@ -15,7 +15,7 @@ use Rattle.commands.proofs.Written.{read_written, written_read}
 use Rattle.script.specs.Answers.{Said, refused}
 use Rattle.script.specs.Laws.{EachShort, IsScript, ListingLaw, answers, answers_from, letter_of, lines_for, listed_lines, rest_answers, unreadable}
 use Rattle.script.specs.Lines.{line_of}
-use Rattle.script.specs.Scripts.{ScriptState, begun, ended_by, lines_of, listing, numbered, stepped, stepped_by, stepped_to}
+use Rattle.script.specs.Scripts.{ScriptState, begun, ended_by, lines_of, listing, numbered, script_of, stepped, stepped_by, stepped_to}
 use Rattle.script.specs.Stores.{Store, obeyed}
 use Rattle.script.proofs.LinesLeft.{lines_left, lines_begun, lines_none, lines_turn}
 use Rattle.script.proofs.Stepping.{next_is, read_obeyed}
@@ -23,17 +23,7 @@ use Rattle.script.proofs.Stepping.{next_is, read_obeyed}
 -- a command is written in at least one byte
 some_written : (c : Command) → 0 < length (written c)
 some_written (Layout sites partitions clock marks) = omega arith
-some_written (OpenSession site) = omega arith
-some_written (Tell site partition time) = omega arith
-some_written (Put session key kind amount) = omega arith
-some_written (Get session key) = omega arith
-some_written (Heartbeat site partition) = omega arith
-some_written (Deliver from to partition) = omega arith
-some_written (Report site partition) = omega arith
-some_written (Stabilise site partition) = omega arith
-some_written (Tidy site partition) = omega arith
-some_written (Lead site partition) = omega arith
-some_written (View session partition first second) = omega arith
+some_written command = omega arith
 
 -- why a rest is not read
 read_refused : (letter : ℕ) (bytes : List ℕ) (why : Refusal) → read_command (letter ∷ bytes) ≡ Err why → why ≡ unreadable (form_of letter)
@@ -145,12 +135,11 @@ bytes_before (suc n) (b ∷ bytes) h zero = h 0
 bytes_before (suc n) (b ∷ bytes) h (suc i) = bytes_before n bytes (λ j. h (suc j)) i
 
 -- the lines of a script are those of its commands' answers
-lines_due : (bytes : List ℕ) (commands : List Command) (rest : List ℕ) → Bytes bytes → IsScript (take 65535 bytes) commands rest → lines_of bytes ≡ lines_for commands rest
+lines_due : (bytes : List ℕ) (commands : List Command) (rest : List ℕ) → Bytes bytes → IsScript (script_of bytes) commands rest → lines_of bytes ≡ lines_for commands rest
 lines_due bytes commands rest h i = sym (lines_begun bytes) ∙ answered_lines commands rest (begun bytes) i (bytes_before 65535 bytes h)
 
 pub listing_law : (bytes : List ℕ) → Bytes bytes → EachShort (lines_of bytes) → ListingLaw bytes (listing bytes)
 listing_law bytes h short = record {
-  every = every_script (suc (length (take 65535 bytes))) (take 65535 bytes) (omega arith) (bytes_before 65535 bytes h);
-  lines = λ commands rest i. ap concat (lines_due bytes commands rest h i);
-  short = λ commands rest i. subst EachShort (lines_due bytes commands rest h i) short;
+  every = every_script (suc (length (script_of bytes))) (script_of bytes) (omega arith) (bytes_before 65535 bytes h);
+  lines = λ commands rest i. let due = lines_due bytes commands rest h i in (ap concat due, subst EachShort due short);
 }

@@ -7,7 +7,7 @@ use Rattle.stamps.specs.Outside.{and_then}
 use Rattle.model.specs.Groups.{GroupState}
 use Rattle.group.specs.Layouts.{checked_counts}
 use Rattle.commands.specs.declared.command.Command.{Command}
-use Rattle.commands.specs.declared.command.Command.TheVariants.{Layout, OpenSession, Tell, Put, Get, Heartbeat, Deliver, Report, Stabilise, Tidy, Lead, View}
+use Rattle.commands.specs.declared.command.Command.TheVariants.{Layout}
 use Rattle.commands.specs.Commands.{read_command}
 use Rattle.commands.proofs.Shorter.{read_shorter}
 use Rattle.script.specs.declared.choice.Clock.{Clock}
@@ -15,7 +15,7 @@ use Rattle.script.specs.declared.choice.Marks.{Marks}
 use Rattle.script.specs.Counting.{goes_on, left_after, left_by}
 use Rattle.script.specs.Scripts.{ScriptState, begun, lines_after, lines_from, next_at, numbered, stepped, stepped_by, stepped_to}
 use Rattle.script.proofs.Stepping.{begun_within, length_begun}
-use Rattle.script.specs.Stores.{Store, unmade, made, clock_of, marks_of, made_store, obeyed, opens}
+use Rattle.script.specs.Stores.{Store, unmade, made, clock_of, marks_of, made_store, obeyed, done_if_made}
 
 -- whether a group was made
 abbrev pub is_made : Store → Bool
@@ -48,24 +48,14 @@ with_made (Err why) f h = tt
 made_or : (command : Command) → MadeOr (made_store command)
 made_or (Layout sites partitions clock marks) =
     with_made (checked_counts sites partitions) _ (λ counts. with_made (clock_of clock) _ (λ rule. with_made (marks_of marks) _ (λ kind. refl)))
-made_or (OpenSession site) = tt
-made_or (Tell site partition time) = tt
-made_or (Put session key kind amount) = tt
-made_or (Get session key) = tt
-made_or (Heartbeat site partition) = tt
-made_or (Deliver from to partition) = tt
-made_or (Report site partition) = tt
-made_or (Stabilise site partition) = tt
-made_or (Tidy site partition) = tt
-made_or (Lead site partition) = tt
-made_or (View session partition first second) = tt
+made_or command = tt
 
 -- what a step leaves is what the commands alone leave
 pub record Follows (left : List ℕ) (after : ScriptState Store) : Type 0 where
   pub rest : after.rest ≡ left
   pub goes_on_lem : GoesOnMade after
 
-first_follows : (s : ScriptState Store) (rest : List ℕ) (m : Result Store Refusal) → MadeOr m → Follows (cond (is_ok m) rest []) (stepped_to s rest (opens m)).1
+first_follows : (s : ScriptState Store) (rest : List ℕ) (m : Result Store Refusal) → MadeOr m → Follows (cond (is_ok m) rest []) (stepped_to s rest (done_if_made m)).1
 first_follows s rest (Err why) h = record { rest = refl; goes_on_lem = none_left false }
 first_follows s rest (Ok unmade) h = absurd cc
 first_follows s rest (Ok (made clock marks g)) h = record { rest = refl; goes_on_lem = λ n. refl }
@@ -73,17 +63,7 @@ first_follows s rest (Ok (made clock marks g)) h = record { rest = refl; goes_on
 made_follows : (s : ScriptState Store) (rest : List ℕ) (clock : Clock) (marks : Marks) (g : GroupState) (command : Command)
     → Follows (cond (goes_on true command) rest []) (stepped_to s rest (obeyed (made clock marks g) command)).1
 made_follows s rest clock marks g (Layout sites partitions c m) = record { rest = refl; goes_on_lem = λ n. refl }
-made_follows s rest clock marks g (OpenSession site) = record { rest = refl; goes_on_lem = λ n. refl }
-made_follows s rest clock marks g (Tell site partition time) = record { rest = refl; goes_on_lem = λ n. refl }
-made_follows s rest clock marks g (Put session key kind amount) = record { rest = refl; goes_on_lem = λ n. refl }
-made_follows s rest clock marks g (Get session key) = record { rest = refl; goes_on_lem = λ n. refl }
-made_follows s rest clock marks g (Heartbeat site partition) = record { rest = refl; goes_on_lem = λ n. refl }
-made_follows s rest clock marks g (Deliver from to partition) = record { rest = refl; goes_on_lem = λ n. refl }
-made_follows s rest clock marks g (Report site partition) = record { rest = refl; goes_on_lem = λ n. refl }
-made_follows s rest clock marks g (Stabilise site partition) = record { rest = refl; goes_on_lem = λ n. refl }
-made_follows s rest clock marks g (Tidy site partition) = record { rest = refl; goes_on_lem = λ n. refl }
-made_follows s rest clock marks g (Lead site partition) = record { rest = refl; goes_on_lem = λ n. refl }
-made_follows s rest clock marks g (View session partition first second) = record { rest = refl; goes_on_lem = λ n. refl }
+made_follows s rest clock marks g command = record { rest = refl; goes_on_lem = λ n. refl }
 
 pub step_follows : (s : ScriptState Store) → Follows (left_after (is_made s.group) s.rest) (stepped obeyed s).1
 step_follows s = by_read (read_command s.rest)

@@ -4,7 +4,7 @@ use borrow.Rule.Slice.PartMut.{put_mid}
 use lib.Seq.{drop-drop}
 use Rattle.std.proofs.lemmas.List.{append_assoc, append-nil, drop_all, drop_at, length-append, length-drop, length-take-le, take_at, take_rest}
 use Rattle.stamps.specs.declared.refusal.Refusal.{Refusal}
-use Rattle.script.specs.Scripts.{ScriptState, begun, lines_of, lines_after, lines_from, next, next_at, numbered, stepped, written}
+use Rattle.script.specs.Scripts.{ScriptState, begun, lines_of, lines_after, lines_from, next, next_at, numbered, placed, stepped}
 use Rattle.script.specs.Stores.{Store, obeyed}
 use Rattle.script.proofs.Counts.{left_shorter, step_follows, is_made}
 use Rattle.script.proofs.Stepping.{begun_within}
@@ -75,10 +75,10 @@ pub record LineCame (s after : ScriptState Store) (len : ℕ) (part left : List 
   pub long : len ≡ length line
   pub stands : left ≡ line ++ drop len part
 
-pub line_came : (s after : ScriptState Store) (len : ℕ) (part left : List ℕ) → (Ok (Some len), after, left) ≡ written s part (next obeyed s) → LineCame s after len part left
+pub line_came : (s after : ScriptState Store) (len : ℕ) (part left : List ℕ) → (Ok (Some len), after, left) ≡ placed s part (next obeyed s) → LineCame s after len part left
 line_came s after len part left e = go (next obeyed s) refl e
   where
-    go : (o : Option (List ℕ × ScriptState Store)) → next obeyed s ≡ o → (Ok (Some len), after, left) ≡ written s part o → LineCame s after len part left
+    go : (o : Option (List ℕ × ScriptState Store)) → next obeyed s ≡ o → (Ok (Some len), after, left) ≡ placed s part o → LineCame s after len part left
     go None is e' =
         let answer = ap (λ (w : Result (Option ℕ) Refusal × ScriptState Store × List ℕ). w.0) e' in
         absurd cc

@@ -16,7 +16,7 @@ use Rattle.script.specs.Lines.{line_of}
 use Rattle.script.specs.Listings.{GoesOnAsScript, after_layout, as_script, line_as_script}
 use Rattle.script.specs.Scripts.{Obeying, ScriptState, begun, next, next_at, numbered, stepped, stepped_by, stepped_to}
 use Rattle.script.specs.Steps.{performed}
-use Rattle.script.specs.Stores.{Store, clock_rule_of, keeping, made, made_store, mark_kind_of, obeyed, opens}
+use Rattle.script.specs.Stores.{Store, clock_rule_of, keeping, made, made_store, mark_kind_of, obeyed, done_if_made}
 use Rattle.script.proofs.Stepping.{next_is, read_obeyed}
 
 -- after its layout a script stands where the listing over the group that was made begins
@@ -43,12 +43,12 @@ begins sites partitions clock_letter marks_letter bytes clock marks g fits makes
     long = ap length is ∙ length-append (written layout) rest
 
     step : stepped_to s rest (Ok done, made clock marks g) ≡ stepped obeyed s
-    step = read_obeyed obeyed s layout rest (Ok done, made clock marks g) (sym (ap read_command is ∙ written_read layout rest fits)) (sym (ap opens makes))
+    step = read_obeyed obeyed s layout rest (Ok done, made clock marks g) (sym (ap read_command is ∙ written_read layout rest fits)) (sym (ap done_if_made makes))
 
 -- a script that has made its group goes on as the listing over this group
-goes_on : (clock : Clock) (marks : Marks) (s : ScriptState GroupState)
+then_alike : (clock : Clock) (marks : Marks) (s : ScriptState GroupState)
     → next obeyed (as_script clock marks s) ≡ line_as_script clock marks (next (performed (clock_rule_of clock) (mark_kind_of marks)) s)
-goes_on clock marks s = by_rest s.rest
+then_alike clock marks s = by_rest s.rest
   where
     performing : Obeying GroupState
     performing = performed (clock_rule_of clock) (mark_kind_of marks)
@@ -71,4 +71,4 @@ goes_on clock marks s = by_rest s.rest
     by_rest (letter ∷ bytes) = by_read letter (read_command s.rest)
 
 pub goes_on_as_script : GoesOnAsScript
-goes_on_as_script = record { begins = begins; goes_on = goes_on }
+goes_on_as_script = record { begins = begins; then_alike = then_alike }

@@ -32,7 +32,7 @@ said (answer.Refused why) = refused why
 
 -- a stamp as time.count
 abbrev pub stamp_text : ℕ → List ℕ
-stamp_text s = decimal (time_of s) ++ (codes "." ++ decimal (count_of s))
+stamp_text s = decimal (time_of s) ++ codes "." ++ decimal (count_of s)
 
 abbrev pub refusal_text : Refusal → List ℕ
 refusal_text why = codes "no " ++ decimal (number_of why)
@@ -46,7 +46,7 @@ value_text sheet = codes "basis sheet"
 
 -- a version as its value, its stamp and its source
 abbrev pub version_text : Shown → List ℕ
-version_text v = value_text v.value ++ (codes " " ++ (stamp_text v.stamp ++ (codes " " ++ decimal v.source)))
+version_text v = value_text v.value ++ codes " " ++ stamp_text v.stamp ++ codes " " ++ decimal v.source
 
 abbrev pub shown_text : Option Shown → List ℕ
 shown_text None = codes "none"
@@ -64,5 +64,5 @@ printed (count n) = decimal n
 printed (number n) = signed_decimal n
 printed (stamped s) = stamp_text s
 printed (shown v) = shown_text v
-printed (both a b) = read_text a ++ (codes " / " ++ read_text b)
+printed (both a b) = read_text a ++ codes " / " ++ read_text b
 printed (refused why) = refusal_text why

@@ -5,7 +5,7 @@ use Rattle.model.specs.GroupStore.{group_store}
 use Rattle.model.specs.Promises.{KeepsPromises}
 use Rattle.script.specs.Stores.{Store, unmade, made, clock_rule_of, mark_kind_of}
 
--- no group has nothing to keep
+-- without a group there is nothing to keep
 abbrev pub Keeps : Store → Type 0
 Keeps unmade = Unit {0}
 Keeps (made clock marks g) = KeepsPromises (group_store (clock_rule_of clock) (mark_kind_of marks) g.sites) g

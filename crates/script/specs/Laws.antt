@@ -1,5 +1,5 @@
 -- The law of a listing: what commands answer, one after the other.
-use Rattle.std.specs.Prelude.{◌≡◌, ℕ, ◌+◌, ◌≤◌, List, [], ◌∷◌, ◌++◌, length, take, map, Some, None, Ok, Err, Option, Result, slice_index}
+use Rattle.std.specs.Prelude.{◌≡◌, ℕ, ◌+◌, ◌≤◌, List, [], ◌∷◌, ◌++◌, length, map, Some, None, Ok, Err, Option, Result, slice_index}
 use Rattle.std.specs.List.{All, concat}
 use Rattle.stamps.specs.declared.refusal.Refusal.{Refusal}
 use Rattle.stamps.specs.declared.refusal.Refusal.TheVariants.{ShortCommand, UnknownLetter}
@@ -8,13 +8,14 @@ use Rattle.commands.specs.Commands.{Form, form_of}
 use Rattle.commands.specs.Writing.{Fits, written}
 use Rattle.script.specs.Answers.{Said, refused}
 use Rattle.script.specs.Lines.{line_of}
+use Rattle.script.specs.Scripts.{script_of}
 use Rattle.script.specs.Stores.{Store, unmade, obeyed}
 
 -- the code of a command's letter
 abbrev pub letter_of : Command → ℕ
 letter_of command = slice_index (written command) 0
 
--- why no command begins with a letter: there is none of it, or too few bytes are left
+-- why no command is read at a letter: no command has it, or too few bytes are left
 abbrev pub unreadable : Option Form → Refusal
 unreadable None = UnknownLetter
 unreadable (Some form) = ShortCommand
@@ -56,8 +57,7 @@ pub record IsScript (script : List ℕ) (commands : List Command) (rest : List �
 -- A text is the listing of bytes, of which the first 65,535 are a script.
 pub record ListingLaw (bytes text : List ℕ) : Type 0 where
   -- every script is commands and a rest
-  pub every : (commands : List Command) × (rest : List ℕ) × IsScript (take 65535 bytes) commands rest
-  -- the text is the lines of their answers
-  pub lines : (commands : List Command) (rest : List ℕ) → IsScript (take 65535 bytes) commands rest → text ≡ concat (lines_for commands rest)
-  -- and each of these lines is short
-  pub short : (commands : List Command) (rest : List ℕ) → IsScript (take 65535 bytes) commands rest → EachShort (lines_for commands rest)
+  pub every : (commands : List Command) × (rest : List ℕ) × IsScript (script_of bytes) commands rest
+  -- the text is the lines of their answers, and each of these lines is short
+  pub lines : (commands : List Command) (rest : List ℕ) → IsScript (script_of bytes) commands rest
+      → (text ≡ concat (lines_for commands rest)) × EachShort (lines_for commands rest)

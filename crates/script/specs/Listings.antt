@@ -1,5 +1,6 @@
--- A script over a group that the caller made, of any clock rule and kind of mark, and how a whole script goes on as one.
-use Rattle.std.specs.Prelude.{◌≡◌, ℕ, List, ◌++◌, take, Some, None, Ok, Option}
+-- A script over a group that the caller made, of any clock rule and kind of mark; a whole one goes on so after its layout.
+use Rattle.std.specs.Prelude.{◌≡◌, ℕ, List, ◌++◌, take, Some, Ok, Option}
+use Rattle.std.specs.Option.{option_map}
 use Rattle.model.specs.Groups.{GroupState}
 use Rattle.commands.specs.declared.command.Command.TheVariants.{Layout}
 use Rattle.commands.specs.Writing.{Fits, written}
@@ -19,11 +20,11 @@ after_layout g bytes = record { rest = take 65530 bytes; lines = 1; group = g }
 abbrev pub as_script : Clock → Marks → ScriptState GroupState → ScriptState Store
 as_script clock marks s = record { rest = s.rest; lines = s.lines; group = made clock marks s.group }
 
+-- the same of a next line and the script after it
 abbrev pub line_as_script : Clock → Marks → Option (List ℕ × ScriptState GroupState) → Option (List ℕ × ScriptState Store)
-line_as_script clock marks None = None
-line_as_script clock marks (Some (line, after)) = Some (line, as_script clock marks after)
+line_as_script clock marks = option_map (λ came. (came.0, as_script clock marks came.1))
 
--- A script is a layout, and then the listing over the group that the layout makes.
+-- A script whose layout makes a group is that layout and then the listing over this group.
 pub record GoesOnAsScript : Type 0 where
   -- after its layout, whose letter is 76, it stands where that listing begins
   pub begins : (sites partitions clock_letter marks_letter : ℕ) (bytes : List ℕ) (clock : Clock) (marks : Marks) (g : GroupState) →
@@ -31,5 +32,5 @@ pub record GoesOnAsScript : Type 0 where
       Fits layout → made_store layout ≡ Ok (made clock marks g)
       → next obeyed (begun (written layout ++ bytes)) ≡ Some (line_of 1 76 done, as_script clock marks (after_layout g bytes))
   -- then they go on alike
-  pub goes_on : (clock : Clock) (marks : Marks) (s : ScriptState GroupState)
+  pub then_alike : (clock : Clock) (marks : Marks) (s : ScriptState GroupState)
       → next obeyed (as_script clock marks s) ≡ line_as_script clock marks (next (performed (clock_rule_of clock) (mark_kind_of marks)) s)

@@ -1,5 +1,5 @@
 -- A script, command by command, over whatever obeys its commands; and the listing of a whole one.
-use Rattle.std.specs.Prelude.{ℕ, zero, suc, ◌+◌, ◌*◌, ◌≤◌, cond, List, [], ◌∷◌, ◌++◌, length, take, drop, Some, None, Ok, Err, Option, Result, ◌==◌, nat_lt}
+use Rattle.std.specs.Prelude.{ℕ, zero, suc, ◌+◌, ◌*◌, cond, List, [], ◌∷◌, ◌++◌, length, take, drop, Some, None, Ok, Err, Option, Result, ◌==◌, nat_lt}
 use Rattle.std.specs.List.{concat}
 use Rattle.stamps.specs.declared.refusal.Refusal.{Refusal}
 use Rattle.stamps.specs.declared.refusal.Refusal.TheVariants.{ShortBuffer}
@@ -10,7 +10,7 @@ use Rattle.script.specs.Answers.{Said, refused}
 use Rattle.script.specs.Lines.{line_of}
 use Rattle.script.specs.Stores.{Store, unmade, obeyed}
 
--- what a command answers or the refusal that ends the listing, by what obeys it, and what this is then
+-- how commands are obeyed: from a state and a command, the answer or the refusal that ends the listing, and the state after
 abbrev pub Obeying : Type 0 → Type 0
 Obeying S = S → Command → Result Said Refusal × S
 
@@ -25,18 +25,22 @@ pub record ScriptState (S : Type 0) : Type 0 where
 abbrev pub view : {G S : Type 0} → (G → S) → ScriptOver G → ScriptState S
 view state s = record { rest = s.rest.now; lines = s.lines; group = state s.group }
 
--- a script as it begins: bytes past the first 65,535 are no part of it
+-- the bytes that are a script's: those past the first 65,535 are no part of it
+abbrev pub script_of : List ℕ → List ℕ
+script_of bytes = take 65535 bytes
+
+-- a script as it begins
 abbrev pub begun : List ℕ → ScriptState Store
-begun bytes = record { rest = take 65535 bytes; lines = 0; group = unmade }
+begun bytes = record { rest = script_of bytes; lines = 0; group = unmade }
 
 -- a refusal that ends the listing is its last answer, and leaves no rest
 abbrev pub ended_by : {S : Type 0} → ScriptState S → Refusal → Said × ScriptState S
-ended_by s why = (refused why, record { rest = []; lines = s.lines; group = s.group })
+ended_by s why = (refused why, record s { rest = [] })
 
 -- a command was obeyed, or has ended the listing
 abbrev pub stepped_to : {S : Type 0} → ScriptState S → List ℕ → Result Said Refusal × S → Said × ScriptState S
-stepped_to s rest (Ok answer, g) = (answer, record { rest = rest; lines = s.lines; group = g })
-stepped_to s rest (Err why, g) = ended_by (record { rest = s.rest; lines = s.lines; group = g }) why
+stepped_to s rest (Ok answer, g) = (answer, record s { rest = rest; group = g })
+stepped_to s rest (Err why, g) = ended_by (record s { group = g }) why
 
 abbrev pub stepped_by : {S : Type 0} → Obeying S → ScriptState S → Result (Command × List ℕ) Refusal → Said × ScriptState S
 stepped_by obeying s (Err why) = ended_by s why
@@ -46,40 +50,37 @@ stepped_by obeying s (Ok (command, rest)) = stepped_to s rest (obeying s.group c
 abbrev pub stepped : {S : Type 0} → Obeying S → ScriptState S → Said × ScriptState S
 stepped obeying s = stepped_by obeying s (read_command s.rest)
 
--- the next line and the script after it, if bytes are left
+-- an answer as the next line, and the script with this line counted
 abbrev pub numbered : {S : Type 0} → ℕ → Said × ScriptState S → List ℕ × ScriptState S
-numbered letter (answer, s) = (line_of (s.lines + 1) letter answer, record { rest = s.rest; lines = s.lines + 1; group = s.group })
+numbered letter (answer, s) = (line_of (s.lines + 1) letter answer, record s { lines = s.lines + 1 })
 
 abbrev pub next_at : {S : Type 0} → Obeying S → ScriptState S → List ℕ → Option (List ℕ × ScriptState S)
 next_at obeying s [] = None
 next_at obeying s (letter ∷ bytes) = Some (numbered letter (stepped obeying s))
 
+-- the next line and the script after it, if bytes are left
 abbrev pub next : {S : Type 0} → Obeying S → ScriptState S → Option (List ℕ × ScriptState S)
 next obeying s = next_at obeying s s.rest
 
 -- a line goes to the start of a buffer, and the bytes past it stay; with no line nothing changes
-abbrev pub written : {S : Type 0} → S → List ℕ → Option (List ℕ × S) → Result (Option ℕ) Refusal × S × List ℕ
-written s buffer None = (Ok None, s, buffer)
-written s buffer (Some (line, after)) = (Ok (Some (length line)), after, line ++ drop (length line) buffer)
+abbrev pub placed : {S : Type 0} → S → List ℕ → Option (List ℕ × S) → Result (Option ℕ) Refusal × S × List ℕ
+placed s buffer None = (Ok None, s, buffer)
+placed s buffer (Some (line, after)) = (Ok (Some (length line)), after, line ++ drop (length line) buffer)
 
 -- the first line, if none was listed before
-abbrev pub first : ScriptState Store → Option (List ℕ × ScriptState Store)
-first s = cond (s.lines == 0) (next obeyed s) None
+abbrev pub first_line : ScriptState Store → Option (List ℕ × ScriptState Store)
+first_line s = cond (s.lines == 0) (next obeyed s) None
 
 -- a line into a buffer; one under 96 bytes is refused before anything is done
 abbrev pub line_into : {S : Type 0} → (S → Option (List ℕ × S)) → S → List ℕ → Result (Option ℕ) Refusal × S × List ℕ
-line_into line s buffer = cond (nat_lt (length buffer) 96) (Err ShortBuffer, s, buffer) (written s buffer (line s))
+line_into line s buffer = cond (nat_lt (length buffer) 96) (Err ShortBuffer, s, buffer) (placed s buffer (line s))
 
--- the length of a line, if there is one
-abbrev pub AtMost96 : Option ℕ → Type 0
-AtMost96 None = Unit {0}
-AtMost96 (Some len) = len ≤ 96
-
--- the lines that follow, at most n of them
+-- a line, if there is one, and more lines after it
 abbrev pub lines_after : {S : Type 0} → (S → List (List ℕ)) → Option (List ℕ × S) → List (List ℕ)
 lines_after more None = []
 lines_after more (Some (line, s)) = line ∷ more s
 
+-- the lines that follow, at most n of them
 abbrev pub lines_from : ℕ → ScriptState Store → List (List ℕ)
 lines_from zero s = []
 lines_from (suc n) s = lines_after (lines_from n) (next obeyed s)

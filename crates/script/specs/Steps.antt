@@ -60,6 +60,8 @@ abbrev pub said_or : Result Answer Refusal → Result Said Refusal
 said_or (Ok a) = Ok (said a)
 said_or (Err why) = Err why
 
+-- ---- for functions inside the crate
+
 -- an answer that is made of what was given, or the refusal
 abbrev pub SaidBy : {A : Type 0} → (A → Answer → Type 0) → Result A Refusal → Answer → Type 0
 SaidBy says res answer = MatchResult res (λ x. says x answer) (λ why. answer ≡ Refused why)

@@ -1,4 +1,4 @@
--- A group of any clock rule and kind of mark, or none yet, and what a command does to it.
+-- A group of any built clock rule and kind of mark, or none yet, and what a command does to it.
 use Rattle.std.specs.Prelude.{ℕ, cond, Ok, Err, Result, ◌==◌}
 use Rattle.stamps.specs.declared.refusal.Refusal.{Refusal}
 use Rattle.stamps.specs.declared.refusal.Refusal.TheVariants.{BadLayout, LayoutMisplaced}
@@ -12,7 +12,7 @@ use Rattle.model.specs.Groups.{GroupState}
 use Rattle.group.specs.Groups as group
 use Rattle.group.specs.Layouts.{checked_counts}
 use Rattle.commands.specs.declared.command.Command.{Command}
-use Rattle.commands.specs.declared.command.Command.TheVariants.{Layout, OpenSession, Tell, Put, Get, Heartbeat, Deliver, Report, Stabilise, Tidy, Lead, View}
+use Rattle.commands.specs.declared.command.Command.TheVariants.{Layout}
 use Rattle.script.specs.declared.any_group.AnyGroup.{AnyGroup}
 use Rattle.script.specs.declared.any_group.AnyGroup.TheVariants.{Unmade, RawOne, RawEach, HybridOne, HybridEach}
 use Rattle.script.specs.declared.choice.Choice.{Choice}
@@ -54,18 +54,26 @@ marks_of letter = cond (letter == 79) (Ok One) (cond (letter == 69) (Ok Each) (E
 -- the group that a script's first command makes, which has to be a layout
 abbrev pub made_store : Command → Result Store Refusal
 made_store (Layout sites partitions clock marks) =
-    and_then (checked_counts sites partitions) (λ counts. and_then (clock_of clock) (λ rule. and_then (marks_of marks) (λ kind. Ok (made rule kind (model.made counts.0 counts.1)))))
-made_store (OpenSession site) = Err LayoutMisplaced
-made_store (Tell site partition time) = Err LayoutMisplaced
-made_store (Put session key kind amount) = Err LayoutMisplaced
-made_store (Get session key) = Err LayoutMisplaced
-made_store (Heartbeat site partition) = Err LayoutMisplaced
-made_store (Deliver from to partition) = Err LayoutMisplaced
-made_store (Report site partition) = Err LayoutMisplaced
-made_store (Stabilise site partition) = Err LayoutMisplaced
-made_store (Tidy site partition) = Err LayoutMisplaced
-made_store (Lead site partition) = Err LayoutMisplaced
-made_store (View session partition first second) = Err LayoutMisplaced
+    and_then (checked_counts sites partitions) (λ counts.
+    and_then (clock_of clock) (λ rule.
+    and_then (marks_of marks) (λ kind. Ok (made rule kind (model.made counts.0 counts.1)))))
+made_store command = Err LayoutMisplaced
+
+-- a first command is done if it makes a group
+abbrev pub done_if_made : Result Store Refusal → Result Said Refusal × Store
+done_if_made (Ok s) = (Ok done, s)
+done_if_made (Err why) = (Err why, unmade)
+
+-- what a group answers, and the store with the group after it
+abbrev pub keeping : Clock → Marks → Result Said Refusal × GroupState → Result Said Refusal × Store
+keeping clock marks (answer, g) = (answer, made clock marks g)
+
+-- what a command answers, or the refusal that ends the listing
+abbrev pub obeyed : Store → Command → Result Said Refusal × Store
+obeyed unmade command = done_if_made (made_store command)
+obeyed (made clock marks g) command = keeping clock marks (performed (clock_rule_of clock) (mark_kind_of marks) g command)
+
+-- ---- for functions inside the crate
 
 -- the new group of a choice
 abbrev pub chosen_store : Choice → Store
@@ -75,16 +83,3 @@ chosen_store choice = made choice.clock choice.marks (model.made choice.layout.s
 abbrev pub store_as : {A : Type 0} → (A → Store) → Result A Refusal → Result Store Refusal
 store_as of (Ok x) = Ok (of x)
 store_as of (Err why) = Err why
-
--- a first command is done if it makes a group
-abbrev pub opens : Result Store Refusal → Result Said Refusal × Store
-opens (Ok s) = (Ok done, s)
-opens (Err why) = (Err why, unmade)
-
-abbrev pub keeping : Clock → Marks → Result Said Refusal × GroupState → Result Said Refusal × Store
-keeping clock marks (answer, g) = (answer, made clock marks g)
-
--- what a command answers, or the refusal that ends the listing
-abbrev pub obeyed : Store → Command → Result Said Refusal × Store
-obeyed unmade command = opens (made_store command)
-obeyed (made clock marks g) command = keeping clock marks (performed (clock_rule_of clock) (mark_kind_of marks) g command)

@@ -2,7 +2,7 @@
 ghost use Rattle.std.specs.Prelude.{◌≡◌, is_ok};
 ghost use Rattle.script.specs.Kept.{Keeps, KeepsOr};
 ghost use Rattle.script.specs.Steps.{said_or};
-ghost use Rattle.script.specs.Stores.{Store, obeyed, made_store, chosen_store, store, store_as, opens, unmade};
+ghost use Rattle.script.specs.Stores.{Store, obeyed, made_store, chosen_store, store, store_as, done_if_made, unmade};
 
 use crate::answer::Answer;
 use crate::choice::{Choice, Clock, Marks};
@@ -50,7 +50,7 @@ impl AnyGroup {
     #[inline(never)]
     fn make(&mut self, command: Command) -> Result<Answer, Refusal>
         requires { store self.old ≡ unmade }
-        ensures { (said_or result, store self.new) ≡ opens (made_store command) }
+        ensures { (said_or result, store self.new) ≡ done_if_made (made_store command) }
     {
         *self = make_group(command)?;
         Ok(Answer::Done)

@@ -80,22 +80,22 @@ fn count_lines(bytes: &[u8]) -> usize
 
 // What is left after the next command: nothing if it ends the listing. Lines are counted without a group, so whether one
 // was made is told.
-fn rest_after(bytes: &[u8], made: bool) -> &[u8]
+fn rest_after(bytes: &[u8], has_group: bool) -> &[u8]
     requires { 0 < length bytes.now }
-    ensures left { result.now ≡ left_after made bytes.now }
+    ensures left { result.now ≡ left_after has_group bytes.now }
     ensures shorter { length result.now < length bytes.now }
 {
     match read(bytes) {
-        Ok((command, rest)) if goes_on(command, made) => rest,
+        Ok((command, rest)) if goes_on(command, has_group) => rest,
         _ => &[],
     }
 }
 
 // Whether the listing goes on after a command, by whether a group was made before it.
-fn goes_on(command: Command, made: bool) -> bool
-    ensures { result ≡ goes_on made command }
+fn goes_on(command: Command, has_group: bool) -> bool
+    ensures { result ≡ goes_on has_group command }
 {
-    if made {
+    if has_group {
         !matches!(command, Command::Layout { .. })
     } else {
         makes_group(command)

@@ -19,7 +19,7 @@ impl<'a, C: ClockRule, K: MarkKind> Listing<'a, C, K> {
     // first 65,530 are no part of the script.
     pub fn new(group: Group<C, K>, bytes: &'a [u8]) -> Self
         ensures state { view group_view result ≡ after_layout (group_view group) bytes.now }
-        ensures goes_on { GoesOnAsScript }
+        ensures continues { GoesOnAsScript }
     {
         ScriptOver {
             rest: first_bytes(bytes, MOST_SCRIPT_BYTES - LAYOUT_BYTES),

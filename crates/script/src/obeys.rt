@@ -15,7 +15,7 @@ use marks::mark_kind::MarkKind;
 use stamps::clock_rule::ClockRule;
 use stamps::refusal::Refusal;
 
-// A group, or what a layout makes one.
+// A group, or one that a layout has still to make.
 pub trait Obeys {
     // What is known of it.
     ghost State: { Type 0 };

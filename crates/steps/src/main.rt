@@ -1,10 +1,10 @@
 // Reads a step script from standard input and prints its listing.
 #![tactic(auto)]
 
-ghost use Rattle.std.specs.Prelude.{◌≡◌, IfOk, IfSome, OnOk, take};
+ghost use Rattle.std.specs.Prelude.{◌≡◌, IfOk, IfSome, OnOk};
 ghost use Rattle.std.specs.Io.KnownBytes.{Appends};
 ghost use Rattle.script.specs.Laws.{ListingLaw};
-ghost use Rattle.script.specs.Scripts.{listing};
+ghost use Rattle.script.specs.Scripts.{listing, script_of};
 
 use script::list::list;
 use script::script::MOST_SCRIPT_BYTES;
@@ -27,10 +27,12 @@ fn run<R: Read, W: Write>(heap: Global, reader: &mut R, writer: &mut W) -> anyho
 
 // The bytes that are a script's. What lies past them is not read.
 fn read_script<R: Read>(heap: Global, reader: &mut R) -> io::Result<Vec<u8>>
-    ensures { IfOk result (λ script. IfSome (R.remaining reader.old) (λ input. script.items ≡ take 65535 input)) }
+    ensures { IfOk result (λ script. IfSome (R.remaining reader.old) (λ input. script.items ≡ script_of input)) }
 {
     let mut script = Vec::new(heap);
-    reader.take(MOST_SCRIPT_BYTES as u64).read_to_end(&mut script)?;
+    reader
+        .take(MOST_SCRIPT_BYTES as u64)
+        .read_to_end(&mut script)?;
     Ok(script)
 }
 

@@ -1,5 +1,5 @@
 // Answers put at the end of a line.
-ghost use Rattle.std.specs.Prelude.{◌≡◌, ◌≤◌, ◌++◌, length, decimal as digits_of};
+ghost use Rattle.std.specs.Prelude.{◌≡◌, ◌≤◌, ◌++◌, length, decimal};
 ghost use Rattle.std.specs.Option.{option_map};
 ghost use Rattle.servers.specs.Values.{worth, basis_worth};
 ghost use Rattle.group.specs.Answers.{shown_state, shown_numbers};
@@ -91,8 +91,8 @@ impl Line {
 
     // A word and a number.
     fn amount(&mut self, word: &[u8], number: u32)
-        ensures text { text_of self.new ≡ onto (text_of self.old) (word.now ++ digits_of number) }
-        ensures short { length (digits_of number) ≤ 10 }
+        ensures text { text_of self.new ≡ onto (text_of self.old) (word.now ++ decimal number) }
+        ensures short { length (decimal number) ≤ 10 }
     {
         self.text(word);
         self.number(number);

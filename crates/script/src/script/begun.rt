@@ -1,6 +1,6 @@
 // The beginning of a script, and its first line.
-ghost use Rattle.std.specs.Prelude.{◌≡◌, ◌≤◌, length, take, IfOk};
-ghost use Rattle.script.specs.Scripts.{view, begun, first, line_into, AtMost96};
+ghost use Rattle.std.specs.Prelude.{◌≡◌, ◌≤◌, length, take, IfOk, IfSome};
+ghost use Rattle.script.specs.Scripts.{view, begun, first_line, line_into, script_of};
 ghost use Rattle.script.specs.Stores.{store};
 
 use super::{Script, ScriptOver};
@@ -21,7 +21,7 @@ pub(crate) fn first_bytes(bytes: &[u8], most: usize) -> &[u8]
 
 // The bytes that are a script's.
 pub(crate) fn script_of(bytes: &[u8]) -> &[u8]
-    ensures rest { result.now ≡ (begun bytes.now).rest }
+    ensures bytes { result.now ≡ script_of bytes.now }
     ensures few { length result.now ≤ 65535 }
 {
     first_bytes(bytes, MOST_SCRIPT_BYTES)
@@ -40,8 +40,8 @@ impl<'a> Script<'a> {
 
     // The first line as `next_line` gives it, which refuses a short buffer first: none if a line was listed before.
     pub fn first_line(&mut self, buffer: &mut [u8]) -> Result<Option<usize>, Refusal>
-        ensures value { (result, view store self.new, buffer.new) ≡ line_into first (view store self.old) buffer.old }
-        ensures short { IfOk result AtMost96 }
+        ensures value { (result, view store self.new, buffer.new) ≡ line_into first_line (view store self.old) buffer.old }
+        ensures short { IfOk result (λ line. IfSome line (λ len. len ≤ 96)) }
     {
         if self.lines == 0 || buffer.len() < MOST_BYTES {
             return self.next_line(buffer);

@@ -1,7 +1,7 @@
 // The next line of a script, over whatever obeys its commands.
-ghost use Rattle.std.specs.Prelude.{◌≡◌, ◌<◌, ◌≤◌, length, ◌==◌, IfOk, Ok as Listed, Some as Line};
+ghost use Rattle.std.specs.Prelude.{◌≡◌, ◌<◌, ◌≤◌, length, ◌==◌, IfOk, IfSome};
 ghost use Rattle.script.specs.Answers.{said};
-ghost use Rattle.script.specs.Scripts.{view, ended_by, stepped, next, written, line_into, AtMost96};
+ghost use Rattle.script.specs.Scripts.{view, ended_by, stepped, next, placed, line_into};
 
 use super::ScriptOver;
 use crate::answer::Answer;
@@ -15,7 +15,7 @@ impl<'a, G: Obeys> ScriptOver<'a, G> {
     // script has ended.
     pub fn next_line(&mut self, buffer: &mut [u8]) -> Result<Option<usize>, Refusal>
         ensures value { (result, view G.state self.new, buffer.new) ≡ line_into (next G.obeying) (view G.state self.old) buffer.old }
-        ensures short { IfOk result AtMost96 }
+        ensures short { IfOk result (λ line. IfSome line (λ len. len ≤ 96)) }
     {
         if buffer.len() < MOST_BYTES {
             return Err(Refusal::ShortBuffer);
@@ -36,7 +36,7 @@ impl<'a, G: Obeys> ScriptOver<'a, G> {
     // The next line, where there is one and the buffer is long enough.
     pub(crate) fn write_next(&mut self, buffer: &mut [u8]) -> usize
         requires { (96 ≤ length buffer.old) × (0 < length self.old.rest.now) }
-        ensures value { (Listed (Line result), view G.state self.new, buffer.new) ≡ written (view G.state self.old) buffer.old (next G.obeying (view G.state self.old)) }
+        ensures value { (Ok (Some result), view G.state self.new, buffer.new) ≡ placed (view G.state self.old) buffer.old (next G.obeying (view G.state self.old)) }
         ensures short { result ≤ 96 }
     {
         let letter = self.rest[0] as char;

@@ -24,9 +24,9 @@ returns-clause-count c =
     let rest = c.script_of-rest.result.now in
     let none = count_none (nat_lt 0 c.lines.count) c.lines.rest.now (eqb-true (length c.lines.rest.now) 0 (sym c.lines-test.ensures)) in
     let within = begun_within bytes in
-    let enough = count_enough (length rest) (length bytes) false rest (omega arith) (omega (arith, ap length c.script_of-rest.ensures.rest)) in
+    let enough = count_enough (length rest) (length bytes) false rest (omega arith) (omega (arith, ap length c.script_of-rest.ensures.bytes)) in
     let whole = lines_count (length bytes) (begun bytes) in
-    omega (arith, none, c.lines.invariant, enough, whole, ap (count_from (length bytes) false) c.script_of-rest.ensures.rest)
+    omega (arith, none, c.lines.invariant, enough, whole, ap (count_from (length bytes) false) c.script_of-rest.ensures.bytes)
 
 pub returns-clause-few : goal.returns-clause-few
 returns-clause-few c =
