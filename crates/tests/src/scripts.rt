@@ -142,6 +142,20 @@ fn values_are_listed(rt: HostRuntime) -> Result<(), Fail> {
     Ok(())
 }
 
+// There is memory for the listing of a long script, which no contract can promise.
+#[test]
+fn a_long_script_is_listed(rt: HostRuntime) -> Result<(), Fail> {
+    let mut script = Vec::new(rt.alloc());
+    script.extend_from_slice(b"L\x02\x01HE")?;
+    for _ in 0..21_843 {
+        script.extend_from_slice(b"Q\0\0")?;
+    }
+    let listed = list(rt.alloc(), &script)?;
+    let lines = listed.iter().filter(|byte| **byte == b'\n').count();
+    assert_eq!(rt; lines, 21_844);
+    Ok(())
+}
+
 #[test]
 fn a_listing_needs_96_bytes_for_each_line(rt: HostRuntime) {
     let script = b"L\x02\x01HEQ\0\0X";

@@ -1,4 +1,6 @@
 // The edges of stamps, clock rules and marks, and what each refuses.
+use commands::command::Command;
+use group::layout::Draft;
 use marks::common_floor::common_floor;
 use marks::each::Each;
 use marks::mark_kind::MarkKind;
@@ -39,6 +41,27 @@ fn numbers_past_the_range_are_refused(rt: HostRuntime) -> Result<(), Fail> {
 fn refusals_count_from_1_to_16(rt: HostRuntime) {
     assert_eq!(rt; Refusal::NotInLayout.number(), 1);
     assert_eq!(rt; Refusal::ShortBuffer.number(), 16);
+}
+
+// What the tests compare is compared by its value: where these were equal, no test could fail.
+#[test]
+fn what_differs_is_not_equal(rt: HostRuntime) -> Result<(), Fail> {
+    assert_ne!(rt; Refusal::Early, Refusal::End);
+    assert_ne!(rt;
+        Draft {
+            sites: 2,
+            partitions: 1
+        },
+        Draft {
+            sites: 2,
+            partitions: 2
+        }
+    );
+    assert_ne!(rt;
+        Command::OpenSession { site: 0 },
+        Command::OpenSession { site: 1 }
+    );
+    Ok(())
 }
 
 #[test]
