@@ -1,6 +1,6 @@
 -- The capacities and ranges, from the invariant.
-use Rattle.std.proofs.Common.{◌≡◌, ℕ, ◌^◌, ◌<◌, ◌&&◌, eqb, leb, ltb, [], ◌∷◌, Ok, Err, Result, sym, ◌∙◌, subst, inl, inr, arith}
-use Rattle.std.proofs.lemmas.Bool.{and_parts, cond_both, eqb-false, leb-true, ltb-true, not-true}
+use Rattle.std.proofs.Common.{◌≡◌, ℕ, ◌^◌, ◌<◌, ◌&&◌, eqb, leb, ltb, [], ◌∷◌, Ok, Err, Result, sym, subst, inl, inr, arith}
+use Rattle.std.proofs.lemmas.Bool.{and_parts, cond_both, leb-true, ltb-true}
 use Rattle.stamps.specs.declared.refusal.Refusal.{Refusal}
 use Rattle.stamps.specs.declared.refusal.Refusal.TheVariants.{Unlawful}
 use Rattle.marks.specs.Kinds.{Kind, IsMark}
@@ -57,9 +57,7 @@ module _ {k : Kind} {sites : ℕ} {h : History} {g : GroupState} {G : Ghost} (v 
       few_versions = f.versions;
       few_entries = f.entries;
       versions = λ w i. logged_bounded w (v.core.holds.had w s n i).0;
-      entries = λ site other e i.
-          let o = and_parts (ltb site (g.server s n).sites) _ other in
-          entry_bounded s n site ls (subst (λ (z : ℕ). site < z) f.sites_is (ltb-true _ _ o.0)) (λ is. eqb-false _ _ (not-true _ o.1) (is ∙ sym f.site_is)) e i;
+      entries = λ to lt apart e i. entry_bounded s n to ls lt apart e i;
       reading = f.reading;
       received = v.core.marks.received_stamps s n;
       reported = v.core.marks.reported_mark s n;

@@ -1,9 +1,8 @@
 -- A group as a store, and the theorem about it.
-use Rattle.std.specs.Prelude.{◌≡◌, ℕ, ◌^◌, ◌<◌, ◌≤◌, Bool, true, List, [], ◌∷◌, ◌++◌, length, Some}
+use Rattle.std.specs.Prelude.{◌≡◌, ℕ, ◌^◌, ◌<◌, ◌≤◌, ◌≢◌, Bool, List, [], ◌∷◌, ◌++◌, length, Some}
 use Rattle.stamps.specs.Rows.{Stamps}
 use Rattle.marks.specs.Kinds.{Kind, IsMark}
 use Rattle.servers.specs.Entries.{Sent, update, heartbeat}
-use Rattle.servers.specs.Others.{is_other}
 use Rattle.servers.specs.Servers.{Rule, ServerState, sees}
 use Rattle.servers.specs.Laws.{In}
 use Rattle.servers.specs.Values.{Worth, gone, price, percent, part, sheet}
@@ -49,13 +48,13 @@ abbrev pub EntryBounded : Kind → ℕ → Sent → Type 0
 EntryBounded k sites (update v) = VersionBounded k sites v
 EntryBounded k sites (heartbeat stamp) = stamp < 2 ^ 63
 
--- A server holds at most 32 versions and keeps at most 16 entries for a site. What it keeps of a mark is the row of a mark
--- of the kind, so the kind's floor gives the mark back.
-pub record ServerBounded (k : Kind) (sites : ℕ) (s : ServerState) : Type 0 where
+-- A server of a site holds at most 32 versions and keeps at most 16 entries for another site. What it keeps of a mark is the
+-- row of a mark of the kind, so the kind's floor gives the mark back.
+pub record ServerBounded (k : Kind) (sites site : ℕ) (s : ServerState) : Type 0 where
   pub few_versions : length s.held ≤ 32
-  pub few_entries : (site : ℕ) → length (s.waiting site) ≤ 16
+  pub few_entries : (to : ℕ) → length (s.waiting to) ≤ 16
   pub versions : (v : VersionState) → In v s.held → VersionBounded k sites v
-  pub entries : (site : ℕ) → is_other s.site s.sites site ≡ true → (e : Sent) → In e (s.waiting site) → EntryBounded k sites e
+  pub entries : (to : ℕ) → to < sites → to ≢ site → (e : Sent) → In e (s.waiting to) → EntryBounded k sites e
   pub reading : s.reading < 2 ^ 47
   pub received : Stamps s.marks.received
   pub reported : IsMark k s.marks.reported
@@ -81,7 +80,7 @@ pub record LayoutBounded (sites partitions : ℕ) : Type 0 where
 -- A group has at most 8 sessions, and 4 seats. A serial number that was given is below the next one, so below 2^32 - 1.
 pub record GroupBounded (k : Kind) (g : GroupState) : Type 0 where
   pub layout : LayoutBounded g.sites g.partitions
-  pub servers : (site partition : ℕ) → site < g.sites → partition < g.partitions → ServerBounded k g.sites (g.server site partition)
+  pub servers : (site partition : ℕ) → site < g.sites → partition < g.partitions → ServerBounded k g.sites site (g.server site partition)
   pub few_sessions : length g.sessions ≤ 8
   pub sessions : (i : ℕ) → i < length g.sessions → SessionBounded k g.sites (session_at g i)
   pub four_seats : length g.seats ≡ 4
