@@ -34,6 +34,8 @@ pub enum Broken {
     RefusalChanged,
     /// A good ticket was refused.
     TicketRefused,
+    /// A get of a session that was opened was refused.
+    GetRefused,
 }
 
 impl fmt::Display for Broken {
@@ -49,6 +51,7 @@ impl fmt::Display for Broken {
             Self::TooMany => "a capacity is exceeded",
             Self::RefusalChanged => "a refused call has changed something",
             Self::TicketRefused => "a good ticket was refused",
+            Self::GetRefused => "a get of an opened session was refused",
         })
     }
 }
@@ -418,7 +421,7 @@ impl Observer {
                 };
                 self.counts.causes += 1;
                 let shown = self.group.clone().get(session as u8, key);
-                let answer = self.put_of(key, shown.unwrap_or_default())?;
+                let answer = self.put_of(key, shown.map_err(|_| Broken::GetRefused)?)?;
                 if self.puts.is_older(answer, cause) {
                     return Err(Broken::CauseHidden);
                 }
