@@ -1,18 +1,16 @@
 -- The cuts of open snapshots, seat by seat.
-use Rattle.std.proofs.Common.{◌≡◌, ℕ, ◌+◌, ◌<◌, Bool, true, false, cond, eqb, List, [], ◌∷◌, ◌++◌, map, length, get_or, position, ltb, drop, Some, None, Option, Result, sym, refl, ap, ◌∙◌, append_assoc, arith}
+use Rattle.std.proofs.Common.{◌≡◌, ℕ, ◌+◌, ◌<◌, Bool, true, false, cond, eqb, List, [], ◌∷◌, ◌++◌, length, get_or, position, ltb, drop, Some, None, Option, Result, sym, refl, ap, ◌∙◌, append_assoc, arith}
 use Rattle.std.proofs.lemmas.Bool.{ltb-true}
-use Rattle.std.proofs.lemmas.List.{drop_more, get_or-map, length-map}
+use Rattle.std.proofs.lemmas.List.{drop_more, get_or_default}
 use Rattle.std.specs.List.{position_or_len}
-use Rattle.std.specs.Option.{is_none, option_map}
+use Rattle.std.specs.Option.{is_none}
 use Rattle.fixed_vec.specs.Items.{pushed}
 use Rattle.fixed_vec.specs.declared.fixed_vec.Full.{Full}
-use Rattle.stamps.specs.Rows.{Four, four}
+use Rattle.stamps.specs.Rows.{Four}
 use Rattle.stamps.specs.declared.row.Row.{Row}
-use Rattle.marks.specs.CommonFloors.{numbers}
-use Rattle.model.specs.Groups.{GroupState, SeatState, cuts_of, lowest_free, session_at}
-use Rattle.group.specs.declared.seat.Seat.{Seat}
-use Rattle.group.specs.Sessions.{cut_in, free_seat, seat_state}
-use Rattle.group.proofs.Rows.{numbers_push, pushed_room}
+use Rattle.group.specs.Model.Groups.{GroupState, SeatState, cuts_of, lowest_free, session_at}
+use Rattle.group.specs.Sessions.{cut_in, free_seat}
+use Rattle.group.proofs.Rows.{pushed_room}
 
 -- a seat with a cut of the site
 cuts_some : (g : GroupState) (site : ℕ) (o : Option SeatState) (ys : List (Option SeatState)) (cut : Four) → cut_in g site o ≡ Some cut → cuts_of g site (o ∷ ys) ≡ cut ∷ cuts_of g site ys
@@ -34,35 +32,33 @@ cuts_none g site (Some y) ys e = by_test (eqb (session_at g y.session).site site
 
 -- a cut is pushed
 pub cut_more : (g : GroupState) (site : ℕ) (seats : List (Option SeatState)) (i : ℕ) (xs ys : List Row) (x : Row) (r : Result (Unit {0}) Full) (all : List Four)
-    → i < length seats → cut_in g site (get_or seats i None) ≡ Some (four x.entries) → (r, ys) ≡ pushed 8 xs x → length xs < 8
-    → numbers xs ++ cuts_of g site (drop i seats) ≡ all → numbers ys ++ cuts_of g site (drop (i + 1) seats) ≡ all
+    → i < length seats → cut_in g site (get_or seats i None) ≡ Some x → (r, ys) ≡ pushed 8 xs x → length xs < 8
+    → xs ++ cuts_of g site (drop i seats) ≡ all → ys ++ cuts_of g site (drop (i + 1) seats) ≡ all
 cut_more g site seats i xs ys x r all here cut push room before =
     let rest = cuts_of g site (drop (i + 1) seats) in
-    let now : cuts_of g site (drop i seats) ≡ four x.entries ∷ rest =
-    ap (cuts_of g site) (drop_more seats i None here) ∙ cuts_some g site (get_or seats i None) (drop (i + 1) seats) (four x.entries) cut
+    let now : cuts_of g site (drop i seats) ≡ x ∷ rest =
+    ap (cuts_of g site) (drop_more seats i None here) ∙ cuts_some g site (get_or seats i None) (drop (i + 1) seats) x cut
     in
-    ap (λ t. t ++ rest) (ap numbers (pushed_room 8 xs ys x r push room) ∙ numbers_push xs x)
-    ∙ append_assoc (numbers xs) (four x.entries ∷ []) rest
-    ∙ ap (λ t. numbers xs ++ t) (sym now) ∙ before
+    ap (λ t. t ++ rest) (pushed_room 8 xs ys x r push room)
+    ∙ append_assoc xs (x ∷ []) rest
+    ∙ ap (λ t. xs ++ t) (sym now) ∙ before
 
 -- nothing is pushed
 pub cut_none : (g : GroupState) (site : ℕ) (seats : List (Option SeatState)) (i : ℕ) (xs : List Row) (all : List Four)
     → i < length seats → cut_in g site (get_or seats i None) ≡ None
-    → numbers xs ++ cuts_of g site (drop i seats) ≡ all → numbers xs ++ cuts_of g site (drop (i + 1) seats) ≡ all
+    → xs ++ cuts_of g site (drop i seats) ≡ all → xs ++ cuts_of g site (drop (i + 1) seats) ≡ all
 cut_none g site seats i xs all here cut before =
-    ap (λ t. numbers xs ++ t) (sym (ap (cuts_of g site) (drop_more seats i None here) ∙ cuts_none g site (get_or seats i None) (drop (i + 1) seats) cut)) ∙ before
+    ap (λ t. xs ++ t) (sym (ap (cuts_of g site) (drop_more seats i None here) ∙ cuts_none g site (get_or seats i None) (drop (i + 1) seats) cut)) ∙ before
 
 -- the first place with no snapshot is the lowest free seat
-first_empty : (xs : List (Option Seat)) → position_or_len is_none xs ≡ lowest_free (map (option_map seat_state) xs)
+first_empty : (xs : List (Option SeatState)) → position_or_len is_none xs ≡ lowest_free xs
 first_empty [] = refl
 first_empty (None ∷ xs) = refl
 first_empty (Some x ∷ xs) = omega (arith, first_empty xs)
 
-pub free_seat_lem : (xs : List (Option Seat)) → position is_none xs ≡ free_seat (map (option_map seat_state) xs)
+pub free_seat_lem : (xs : List (Option SeatState)) → position is_none xs ≡ free_seat xs
 free_seat_lem xs =
-    let ys = map (option_map seat_state) xs in
     ap (λ i. cond (ltb i (length xs)) (Some i) None) (first_empty xs)
-    ∙ ap (λ n. cond (ltb (lowest_free ys) n) (Some (lowest_free ys)) None) (sym (length-map xs (option_map seat_state)))
 
 -- the seat that was found
 pub found_free : (ys : List (Option SeatState)) (n : ℕ) → free_seat ys ≡ Some n → (n ≡ lowest_free ys) × (n < length ys)
@@ -76,7 +72,5 @@ found_free ys n e = by_test (ltb (lowest_free ys) (length ys)) refl e
     by_test false h f = cc
 
 -- the seat of a place in the array
-pub seat_of_place : (seats : List (Option SeatState)) (xs : List (Option Seat)) (i : ℕ) (x : Option Seat) → map (option_map seat_state) xs ≡ seats → x ≡ get_or xs i x → i < length xs
-    → get_or seats i None ≡ option_map seat_state x
-seat_of_place seats xs i x e is here =
-    ap (λ ys. get_or ys i None) (sym e) ∙ get_or-map (option_map seat_state) xs i x None here ∙ ap (option_map seat_state) (sym is)
+pub seat_of_place : (seats xs : List (Option SeatState)) (i : ℕ) (x : Option SeatState) → xs ≡ seats → x ≡ get_or xs i x → i < length xs → get_or seats i None ≡ x
+seat_of_place seats xs i x e is here = ap (λ ys. get_or ys i None) (sym e) ∙ get_or_default xs i None x here ∙ sym is

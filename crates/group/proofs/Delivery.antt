@@ -3,15 +3,15 @@ use Rattle.std.proofs.Common.{◌≡◌, ℕ, true, cond, not, ◌&&◌, eqb, So
 use Rattle.std.proofs.lemmas.Bool.{and_left, and_parts, cond-false, cond-true, eqb-false, ne_eqb, not-true}
 use Rattle.stamps.specs.declared.refusal.Refusal.{Refusal}
 use Rattle.stamps.specs.declared.refusal.Refusal.TheVariants.{NotInLayout}
-use Rattle.servers.specs.Entries.{Sent}
+use Rattle.servers.specs.declared.entry.Entry.{Entry}
 use Rattle.servers.specs.Outboxes.{next_for}
 use Rattle.servers.specs.Servers.{ServerState, handing, taking}
-use Rattle.model.specs.Groups.{GroupState, is_line, with_server}
+use Rattle.group.specs.Model.Groups.{GroupState, is_line, with_server}
 use Rattle.group.specs.declared.place.Place.{Place}
-use Rattle.group.specs.Groups.{called_at, server_at, with_server_at}
-use Rattle.group.specs.Layouts.{checked_line, line_numbers, numbers_of}
+use Rattle.group.specs.Parts.{called_at, server_at, with_server_at}
+use Rattle.group.specs.Layouts.{checked_line}
 use Rattle.group.proofs.Views.{by_numbers, passed}
-use Rattle.model.specs.Calls.{has_server, server_left, took_left, delivered}
+use Rattle.group.specs.Model.Calls.{has_server, server_left, took_left, delivered}
 
 -- a server of another site is as it was
 server_other : (g : GroupState) (site partition other : ℕ) (s : ServerState) → (other ≡ site → ⊥) → (with_server g site partition s).server other partition ≡ g.server other partition
@@ -32,32 +32,32 @@ took g mid after from to partition (Err why, s) e f ne =
     cc
 
 -- the two servers of a line that a layout has
-lined : (sites partitions from to partition : ℕ) (sender taker : Place) → line_numbers (Ok (sender, taker)) ≡ checked_line sites partitions from to partition
-    → (is_line sites partitions from to partition ≡ true) × (numbers_of sender ≡ (from, partition)) × (numbers_of taker ≡ (to, partition))
+lined : (sites partitions from to partition : ℕ) (sender taker : Place) → (Ok (sender, taker)) ≡ checked_line sites partitions from to partition
+    → (is_line sites partitions from to partition ≡ true) × (sender ≡ (from, partition)) × (taker ≡ (to, partition))
 lined sites partitions from to partition sender taker e =
-    let p = passed (is_line sites partitions from to partition) (numbers_of sender, numbers_of taker) ((from, partition), (to, partition)) e in
+    let p = passed (is_line sites partitions from to partition) (sender, taker) ((from, partition), (to, partition)) e in
     let first : (ℕ × ℕ) × (ℕ × ℕ) → ℕ × ℕ = λ x. x.0 in
     let second : (ℕ × ℕ) × (ℕ × ℕ) → ℕ × ℕ = λ x. x.1 in
     (p.0, ap first p.1, ap second p.1)
 
 -- the sender's next entry for the taker, and what the taker has made of it, by numbers
-waiting : (g : GroupState) (from to partition : ℕ) (sender taker : Place) (next : Option Sent) → numbers_of sender ≡ (from, partition) → numbers_of taker ≡ (to, partition)
-    → next ≡ next_for (server_at g sender).waiting taker.site.number → next ≡ next_for (g.server from partition).waiting to
+waiting : (g : GroupState) (from to partition : ℕ) (sender taker : Place) (next : Option Entry) → sender ≡ (from, partition) → taker ≡ (to, partition)
+    → next ≡ next_for (server_at g sender).waiting taker.0 → next ≡ next_for (g.server from partition).waiting to
 waiting g from to partition sender taker next es et e =
-    e ∙ by_numbers (λ i n. next_for (g.server i n).waiting taker.site.number) from partition sender es ∙ by_numbers (λ i n. next_for (g.server from partition).waiting i) to partition taker et
+    e ∙ by_numbers (λ i n. next_for (g.server i n).waiting taker.0) from partition sender es ∙ by_numbers (λ i n. next_for (g.server from partition).waiting i) to partition taker et
 
-taken : (g : GroupState) (from to partition : ℕ) (sender taker : Place) (entry : Sent) → numbers_of sender ≡ (from, partition) → numbers_of taker ≡ (to, partition)
-    → called_at g taker (λ s. taking s sender.site.number entry) ≡ server_left g to partition (taking (g.server to partition) from entry)
+taken : (g : GroupState) (from to partition : ℕ) (sender taker : Place) (entry : Entry) → sender ≡ (from, partition) → taker ≡ (to, partition)
+    → called_at g taker (λ s. taking s sender.0 entry) ≡ server_left g to partition (taking (g.server to partition) from entry)
 taken g from to partition sender taker entry es et =
     by_numbers (λ i n. called_at g taker (λ s. taking s i entry)) from partition sender es
     ∙ by_numbers (λ i n. server_left g i n (taking (g.server i n) from entry)) to partition taker et
 
 -- an entry waits, the taker has taken it, and the sender has handed it over
-pub deliver_done : (g mid after : GroupState) (from to partition : ℕ) (sender taker : Place) (r : Result (Unit {0}) Refusal) (next : Option Sent) (entry : Sent)
-    → line_numbers (Ok (sender, taker)) ≡ checked_line g.sites g.partitions from to partition
-    → next ≡ next_for (server_at g sender).waiting taker.site.number → next ≡ Some entry
-    → (r, mid) ≡ called_at g taker (λ s. taking s sender.site.number entry) → r ≡ Ok tt
-    → after ≡ with_server_at mid sender (handing (server_at mid sender) taker.site.number)
+pub deliver_done : (g mid after : GroupState) (from to partition : ℕ) (sender taker : Place) (r : Result (Unit {0}) Refusal) (next : Option Entry) (entry : Entry)
+    → (Ok (sender, taker)) ≡ checked_line g.sites g.partitions from to partition
+    → next ≡ next_for (server_at g sender).waiting taker.0 → next ≡ Some entry
+    → (r, mid) ≡ called_at g taker (λ s. taking s sender.0 entry) → r ≡ Ok tt
+    → after ≡ with_server_at mid sender (handing (server_at mid sender) taker.0)
     → (Ok tt, after)
     ≡ cond (has_server g from partition && (has_server g to partition && not (eqb from to)))
     (delivered g from to partition (next_for (g.server from partition).waiting to))
@@ -71,7 +71,7 @@ deliver_done g mid after from to partition sender taker r next entry line waits 
     ap (λ t. (t, mid)) (sym ok) ∙ take ∙ taken g from to partition sender taker entry is.1 is.2
     in
     let handed : after ≡ with_server mid from partition (handing (mid.server from partition) to) =
-    hand ∙ by_numbers (λ i n. with_server mid i n (handing (mid.server i n) taker.site.number)) from partition sender is.1
+    hand ∙ by_numbers (λ i n. with_server mid i n (handing (mid.server i n) taker.0)) from partition sender is.1
     ∙ by_numbers (λ i n. with_server mid from partition (handing (mid.server from partition) i)) to partition taker is.2
     in
     took g mid after from to partition (taking (g.server to partition) from entry) took_it handed ne
@@ -88,10 +88,10 @@ took_not g mid from to partition why (Ok done, s) e =
 took_not g mid from to partition why (Err other, s) e = e
 
 -- an entry waits, and the taker has refused it
-pub deliver_not : (g mid : GroupState) (from to partition : ℕ) (sender taker : Place) (why : Refusal) (next : Option Sent) (entry : Sent)
-    → line_numbers (Ok (sender, taker)) ≡ checked_line g.sites g.partitions from to partition
-    → next ≡ next_for (server_at g sender).waiting taker.site.number → next ≡ Some entry
-    → (Err why, mid) ≡ called_at g taker (λ s. taking s sender.site.number entry)
+pub deliver_not : (g mid : GroupState) (from to partition : ℕ) (sender taker : Place) (why : Refusal) (next : Option Entry) (entry : Entry)
+    → (Ok (sender, taker)) ≡ checked_line g.sites g.partitions from to partition
+    → next ≡ next_for (server_at g sender).waiting taker.0 → next ≡ Some entry
+    → (Err why, mid) ≡ called_at g taker (λ s. taking s sender.0 entry)
     → (Err why, mid)
     ≡ cond (has_server g from partition && (has_server g to partition && not (eqb from to)))
     (delivered g from to partition (next_for (g.server from partition).waiting to))

@@ -1,3 +1,4 @@
+pub mod Model
 pub mod Views
 pub mod Rows
 pub mod Delivery

@@ -5,19 +5,10 @@ use Rattle.fixed_vec.specs.Items.{pushed}
 use Rattle.fixed_vec.specs.declared.fixed_vec.Full.{Full}
 use Rattle.servers.specs.Servers.{ServerState, view as server_view}
 use Rattle.servers.specs.declared.server.Server.{Server}
-use Rattle.stamps.specs.Rows.{Four, four}
+use Rattle.stamps.specs.Rows.{Four}
 use Rattle.stamps.specs.declared.row.Row.{Row}
-use Rattle.marks.specs.CommonFloors.{numbers}
-use Rattle.model.specs.Groups.{tabulate}
-use Rattle.group.specs.Groups.{RowsOf}
-
-pub numbers_push : (xs : List Row) (x : Row) → numbers (xs ++ x ∷ []) ≡ numbers xs ++ four x.entries ∷ []
-numbers_push [] x = refl
-numbers_push (y ∷ xs) x = ap (λ t. four y.entries ∷ t) (numbers_push xs x)
-
-pub length_numbers : (xs : List Row) → length (numbers xs) ≡ length xs
-length_numbers [] = refl
-length_numbers (x ∷ xs) = ap suc (length_numbers xs)
+use Rattle.group.specs.Model.Groups.{tabulate}
+use Rattle.group.specs.Parts.{RowsOf}
 
 pub length_first : {A : Type 0} (f : ℕ → A) (n : ℕ) → length (tabulate f n) ≡ n
 length_first f zero = refl
@@ -48,11 +39,11 @@ rows_more gives server n xs ys s row r e room before at given =
 
 -- the rows as numbers, where the function gives what a server has
 pub rows_lem : {C K Mark : Type 0} (gives : Server C K Mark → Row → Type 0) (seen : ServerState → Four) (server : ℕ → ServerState) (n : ℕ) (rows : List Row)
-    → ((s : Server C K Mark) (row : Row) → gives s row → four row.entries ≡ seen (server_view s))
-    → RowsOf gives server n rows → numbers rows ≡ tabulate (λ i. seen (server i)) n
-rows_lem gives seen server zero rows sees e = ap numbers e
+    → ((s : Server C K Mark) (row : Row) → gives s row → row ≡ seen (server_view s))
+    → RowsOf gives server n rows → rows ≡ tabulate (λ i. seen (server i)) n
+rows_lem gives seen server zero rows sees e = e
 rows_lem gives seen server (suc n) rows sees (before, s, row, e, h, at, given) =
-    ap numbers e ∙ numbers_push before row ∙ ap (λ t. t ++ four row.entries ∷ []) (rows_lem gives seen server n before sees h)
+    e ∙ ap (λ t. t ++ row ∷ []) (rows_lem gives seen server n before sees h)
     ∙ ap (λ t. tabulate (λ i. seen (server i)) n ++ t ∷ []) (sees s row given ∙ ap seen at)
 
 -- what is said of each server, of the one that a loop is at

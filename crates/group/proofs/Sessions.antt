@@ -4,13 +4,14 @@ use Rattle.std.proofs.lemmas.Bool.{and_from, cond-false, cond-true, eq-eqb, lt-l
 use Rattle.stamps.specs.declared.refusal.Refusal.{Refusal}
 use Rattle.stamps.specs.declared.refusal.Refusal.TheVariants.{NotInLayout, NoSession, End, NoneFree, NotOpen}
 use Rattle.stamps.specs.Rows.{Four}
-use Rattle.marks.specs.Kinds.{Kind}
+use Rattle.stamps.specs.Kinds.{Kind}
 use Rattle.servers.specs.Servers.{Rule, ServerState, latest_visible, latest_covered, put_version, putting, raised}
-use Rattle.servers.specs.Values.{Worth}
-use Rattle.servers.specs.Versions.{VersionState, full_mark}
-use Rattle.model.specs.Events.{Shown, Ticket}
-use Rattle.model.specs.Groups.{GroupState, SessionState, SeatState, lowest_free, partition_of, session_at, with_seat, with_server, with_session}
-use Rattle.model.specs.Calls.{server_left, on_session, on_seat_of, depending, put_left, showing, hearing, learning, snapshot_opened_at}
+use Rattle.servers.specs.declared.value.Value.{Value}
+use Rattle.servers.specs.Versions.{full_mark}
+use Rattle.servers.specs.declared.version.Version.{Version}
+use Rattle.group.specs.Model.Events.{Shown, Ticket}
+use Rattle.group.specs.Model.Groups.{GroupState, SessionState, SeatState, lowest_free, partition_of, session_at, with_seat, with_server, with_session}
+use Rattle.group.specs.Model.Calls.{server_left, on_session, on_seat_of, depending, put_left, showing, hearing, learning, snapshot_opened_at}
 use Rattle.group.specs.Sessions.{free_seat, open_at}
 use Rattle.group.proofs.Cuts.{found_free}
 
@@ -39,7 +40,7 @@ pub learnt_server : (k : Kind) (g mid : GroupState) (i partition : ℕ) (x : Ses
 learnt_server k g mid i partition x e = ap (λ (h : GroupState). h.server x.site partition) e ∙ server_here g x.site partition (hearing k g x partition)
 
 -- what is found at the session's server is shown
-pub gets : (k : Kind) (g mid after : GroupState) (i key partition : ℕ) (s : ServerState) (found : Option VersionState) (r : Result (Option Shown) Refusal)
+pub gets : (k : Kind) (g mid after : GroupState) (i key partition : ℕ) (s : ServerState) (found : Option Version) (r : Result (Option Shown) Refusal)
     → ltb i (length g.sessions) ≡ true → partition ≡ partition_of g key
     → mid ≡ learning k g i (session_at g i) partition
     → s ≡ mid.server (session_at g i).site partition → found ≡ latest_visible k s key
@@ -53,7 +54,7 @@ gets k g mid after i key partition s found r has place learn there sees shows =
     ∙ sym (cond-true (ltb i (length g.sessions)) _ (Err NoSession, g) has)
 
 -- what the cut of a snapshot covers is shown
-pub reads : (k : Kind) (g mid after : GroupState) (y : SeatState) (key partition : ℕ) (site : ℕ) (mark : Four) (s : ServerState) (found : Option VersionState) (r : Result (Option Shown) Refusal)
+pub reads : (k : Kind) (g mid after : GroupState) (y : SeatState) (key partition : ℕ) (site : ℕ) (mark : Four) (s : ServerState) (found : Option Version) (r : Result (Option Shown) Refusal)
     → site ≡ (session_at g y.session).site → partition ≡ partition_of g key → mark ≡ k.floor y.cut
     → mid ≡ with_server g site partition (raised k (g.server site partition) mark)
     → s ≡ mid.server site partition → found ≡ latest_covered k s key mark
@@ -71,7 +72,7 @@ reads k g mid after y key partition site mark s found r ex ep em raises there co
     ∙ ap (λ i. showing k (with_server g i (partition_of g key) (raised k (g.server i (partition_of g key)) (k.floor y.cut))) y.session (latest_covered k (raised k (g.server i (partition_of g key)) (k.floor y.cut)) key (k.floor y.cut))) ex
 
 -- a version is written, and then the session depends on it
-pub puts : (k : Kind) (g mid after : GroupState) (i key stamp : ℕ) (x : SessionState) (value : Worth) (t : Result ℕ Refusal × ServerState) (mark : Four)
+pub puts : (k : Kind) (g mid after : GroupState) (i key stamp : ℕ) (x : SessionState) (value : Value) (t : Result ℕ Refusal × ServerState) (mark : Four)
     → (Ok stamp, mid) ≡ server_left g x.site (partition_of g key) t
     → mark ≡ full_mark k (put_version (g.server x.site (partition_of g key)) key value (k.floor x.depends) stamp)
     → after ≡ with_session mid i (record { site = x.site; depends = mark; knows = x.knows })
@@ -92,7 +93,7 @@ puts k g mid after i key stamp x value (Ok given, s) mark wrote full sets =
     ∙ ap (λ n. (Ok n, with_session (with_server g x.site p s) i (depending x (full_mark k (put_version (g.server x.site p) key value (k.floor x.depends) n))))) same
 
 -- what was written is not, and the group is as it was
-pub puts_not : (k : Kind) (g mid : GroupState) (i key : ℕ) (why : Refusal) (x : SessionState) (value : Worth) (t : Result ℕ Refusal × ServerState)
+pub puts_not : (k : Kind) (g mid : GroupState) (i key : ℕ) (why : Refusal) (x : SessionState) (value : Value) (t : Result ℕ Refusal × ServerState)
     → (Err why, mid) ≡ server_left g x.site (partition_of g key) t → (Err why, mid) ≡ put_left k g i x key value t
 puts_not k g mid i key why x value (Err other, s) wrote = wrote
 puts_not k g mid i key why x value (Ok given, s) wrote =
@@ -101,7 +102,7 @@ puts_not k g mid i key why x value (Ok given, s) wrote =
     cc
 
 -- a write, by other terms for the partition and the marks
-pub writes : (rule : Rule) (k : Kind) (g mid : GroupState) (site key p p' : ℕ) (value : Worth) (a a' b b' : Four) (r : Result ℕ Refusal)
+pub writes : (rule : Rule) (k : Kind) (g mid : GroupState) (site key p p' : ℕ) (value : Value) (a a' b b' : Four) (r : Result ℕ Refusal)
     → p ≡ p' → a ≡ a' → b ≡ b'
     → (r, mid) ≡ server_left g site p (putting rule k (g.server site p) key value a b) → (r, mid) ≡ server_left g site p' (putting rule k (g.server site p') key value a' b')
 writes rule k g mid site key p p' value a a' b b' r ep ea eb e =

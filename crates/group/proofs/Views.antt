@@ -6,18 +6,16 @@ use Rattle.std.proofs.lemmas.Bool.{and_left, and_right, cases_eq, cond-false, co
 use Rattle.std.proofs.lemmas.Bool.Decides.{nat_tests}
 use Rattle.stamps.specs.declared.refusal.Refusal.{Refusal}
 use Rattle.stamps.specs.declared.refusal.Refusal.TheVariants.{NotInLayout}
-use Rattle.stamps.specs.declared.stamp.Stamp.{Stamp}
-use Rattle.stamps.specs.Checks.{stamp_number}
 use Rattle.stamps.specs.Refusals.{RefusalKeeps}
 use Rattle.servers.proofs.RowEntries.{by_site}
 use Rattle.servers.specs.Servers.{ServerState, fresh, view as server_view}
-use Rattle.model.specs.Groups.{GroupState, SessionState, SeatState}
-use Rattle.model.specs.Calls.{has_server, server_left, on_server}
+use Rattle.group.specs.Model.Groups.{GroupState, SessionState, SeatState}
+use Rattle.group.specs.Model.Calls.{has_server, server_left, on_server}
 use Rattle.servers.specs.declared.server.Server.{Server}
-use Rattle.group.specs.declared.group.Group.{Group}
+use Rattle.group.specs.declared.group_parts.GroupParts.{GroupParts}
 use Rattle.group.specs.declared.place.Place.{Place}
-use Rattle.group.specs.Groups.{at, called_at, server_at, view, with_server_at}
-use Rattle.group.specs.Layouts.{checked_place, numbers_of, place_numbers}
+use Rattle.group.specs.Parts.{at, called_at, server_at, view, with_server_at}
+use Rattle.group.specs.Layouts.{checked_place}
 use Rattle.group.specs.Places.{place_of}
 
 -- one server replaced in the array is that server replaced in the state
@@ -45,10 +43,14 @@ pub record Rest : Type 0 where
 abbrev pub state_with : Rest → (ℕ → ℕ → ServerState) → GroupState
 state_with r server = record { sites = r.sites; partitions = r.partitions; server = server; sessions = r.sessions; seats = r.seats; next_serial = r.next }
 
-abbrev pub rest_of : {C K Mark : Type 0} → Group C K Mark → Rest
+abbrev pub rest_of : {C K Mark : Type 0} → GroupParts C K Mark → Rest
 rest_of g =
     let s = view g in
     record { sites = s.sites; partitions = s.partitions; sessions = s.sessions; seats = s.seats; next = s.next_serial }
+
+-- a place that there is
+abbrev pub IsPlace : Place → Type 0
+IsPlace place = (place.0 < 4) × (place.1 < 4)
 
 -- the server that stands in the array
 pub at_place : {C K Mark : Type 0} (sites : ℕ) (servers : List (Server C K Mark)) (site partition p : ℕ) (d : Server C K Mark)
@@ -77,40 +79,40 @@ quarter sites servers site count first some len ls few ef es =
 
 -- one server changed in the array is that server changed in the group
 pub change_server_lem : {C K Mark : Type 0} (rest : Rest) (servers : List (Server C K Mark)) (place : Place) (p : ℕ) (d new : Server C K Mark) (change : ServerState → ServerState)
-    → length servers ≡ 16 → p ≡ place_of place.site.number place.partition.number → server_view new ≡ change (server_view (get_or servers p d))
+    → length servers ≡ 16 → IsPlace place → p ≡ place_of place.0 place.1 → server_view new ≡ change (server_view (get_or servers p d))
     → (let g = state_with rest (at rest.sites (map server_view servers)) in
     state_with rest (at rest.sites (map server_view (set servers p new))) ≡ with_server_at g place (change (server_at g place)))
-change_server_lem rest servers place p d new change len e step =
+change_server_lem rest servers place p d new change len is e step =
     let xs = map server_view servers in
     let s = server_view new in
     let g = state_with rest (at rest.sites xs) in
     ap (λ t. state_with rest (at rest.sites t)) (map-set server_view servers p new ∙ ap (λ q. set xs q s) e)
-    ∙ ap (state_with rest) (at_set rest.sites xs place.site.number place.partition.number s (length-map servers server_view ∙ len) place.site.below place.partition.below)
-    ∙ ap (λ t. with_server_at g place t) (step ∙ ap change (sym (at_place rest.sites servers place.site.number place.partition.number p d len place.site.below place.partition.below e)))
+    ∙ ap (state_with rest) (at_set rest.sites xs place.0 place.1 s (length-map servers server_view ∙ len) is.0 is.1)
+    ∙ ap (λ t. with_server_at g place t) (step ∙ ap change (sym (at_place rest.sites servers place.0 place.1 p d len is.0 is.1 e)))
 
 -- a server's answer, and the group with that server as it was left, are the group's answer and state
 left_server : {A : Type 0} (rest : Rest) (xs : List ServerState) (place : Place) (r : Result A Refusal) (s : ServerState)
-    → length xs ≡ 16 → RefusalKeeps r (at rest.sites xs place.site.number place.partition.number) s
-    → (r, state_with rest (at rest.sites (set xs (place_of place.site.number place.partition.number) s)))
-    ≡ server_left (state_with rest (at rest.sites xs)) place.site.number place.partition.number (r, s)
-left_server rest xs place (Ok x) s len keeps =
-    ap (λ t. (Ok x, state_with rest t)) (at_set rest.sites xs place.site.number place.partition.number s len place.site.below place.partition.below)
-left_server rest xs place (Err why) s len keeps =
-    ap (λ t. (Err why, state_with rest t)) (at_same rest.sites xs place.site.number place.partition.number s place.site.below place.partition.below keeps)
+    → length xs ≡ 16 → IsPlace place → RefusalKeeps r (at rest.sites xs place.0 place.1) s
+    → (r, state_with rest (at rest.sites (set xs (place_of place.0 place.1) s)))
+    ≡ server_left (state_with rest (at rest.sites xs)) place.0 place.1 (r, s)
+left_server rest xs place (Ok x) s len is keeps =
+    ap (λ t. (Ok x, state_with rest t)) (at_set rest.sites xs place.0 place.1 s len is.0 is.1)
+left_server rest xs place (Err why) s len is keeps =
+    ap (λ t. (Err why, state_with rest t)) (at_same rest.sites xs place.0 place.1 s is.0 is.1 keeps)
 
 -- a call of the server at p, as the group's answer and state
 pub call_server : {C K Mark A : Type 0} (rest : Rest) (servers : List (Server C K Mark)) (place : Place) (p : ℕ) (d new : Server C K Mark) (r : Result A Refusal)
     (act : ServerState → Result A Refusal × ServerState)
-    → length servers ≡ 16 → p ≡ place_of place.site.number place.partition.number
+    → length servers ≡ 16 → IsPlace place → p ≡ place_of place.0 place.1
     → (r, server_view new) ≡ act (server_view (get_or servers p d)) → RefusalKeeps r (server_view (get_or servers p d)) (server_view new)
     → (r, state_with rest (at rest.sites (map server_view (set servers p new)))) ≡ called_at (state_with rest (at rest.sites (map server_view servers))) place act
-call_server rest servers place p d new r act len e step keeps =
+call_server rest servers place p d new r act len is e step keeps =
     let sites = rest.sites in
     let xs = map server_view servers in
-    let there = at_place sites servers place.site.number place.partition.number p d len place.site.below place.partition.below e in
+    let there = at_place sites servers place.0 place.1 p d len is.0 is.1 e in
     ap (λ t. (r, state_with rest (at sites t))) (map-set server_view servers p new ∙ ap (λ q. set xs q (server_view new)) e)
-    ∙ left_server rest xs place r (server_view new) (length-map servers server_view ∙ len) (subst (λ s. RefusalKeeps r s (server_view new)) (sym there) keeps)
-    ∙ ap (server_left (state_with rest (at sites xs)) place.site.number place.partition.number) (step ∙ ap act (sym there))
+    ∙ left_server rest xs place r (server_view new) (length-map servers server_view ∙ len) is (subst (λ s. RefusalKeeps r s (server_view new)) (sym there) keeps)
+    ∙ ap (server_left (state_with rest (at sites xs)) place.0 place.1) (step ∙ ap act (sym there))
 
 -- what a check of a layout has let through
 pub passed : {A : Type 0} (b : Bool) (found given : A) → ◌≡◌ {A = Result A Refusal} (Ok found) (cond b (Ok given) (Err NotInLayout)) → (b ≡ true) × (found ≡ given)
@@ -118,23 +120,23 @@ passed true found given e = (refl, cc)
 passed false found given e = cc
 
 -- a server by the numbers of its place
-pub by_numbers : {X : Type 0} (f : ℕ → ℕ → X) (site partition : ℕ) (place : Place) → numbers_of place ≡ (site, partition) → f place.site.number place.partition.number ≡ f site partition
+pub by_numbers : {X : Type 0} (f : ℕ → ℕ → X) (site partition : ℕ) (place : Place) → place ≡ (site, partition) → f place.0 place.1 ≡ f site partition
 by_numbers f site partition place e = ap (λ (x : ℕ × ℕ). f x.0 x.1) e
 
-pub at_numbers : (g : GroupState) (place : Place) (site partition : ℕ) → (place.site.number ≡ site) × (place.partition.number ≡ partition) → server_at g place ≡ g.server site partition
-at_numbers g place site partition e = ap (λ i. g.server i place.partition.number) e.0 ∙ ap (λ n. g.server site n) e.1
+pub at_numbers : (g : GroupState) (place : Place) (site partition : ℕ) → place ≡ (site, partition) → server_at g place ≡ g.server site partition
+at_numbers g place site partition e = by_numbers g.server site partition place e
 
 -- a call of the server that a layout has
 pub on_place : {A : Type 0} (g : GroupState) (site partition : ℕ) (place : Place) (act : ServerState → Result A Refusal × ServerState)
-    → place_numbers (Ok place) ≡ checked_place g.sites g.partitions site partition → called_at g place act ≡ on_server g site partition act
+    → (Ok place) ≡ checked_place g.sites g.partitions site partition → called_at g place act ≡ on_server g site partition act
 on_place g site partition place act e =
-    let p = passed (has_server g site partition) (numbers_of place) (site, partition) e in
+    let p = passed (has_server g site partition) place (site, partition) e in
     by_numbers (λ i n. server_left g i n (act (g.server i n))) site partition place p.1
     ∙ sym (cond-true (has_server g site partition) (server_left g site partition (act (g.server site partition))) (Err NotInLayout, g) p.0)
 
 -- a call of a server that it lacks
 pub on_no_place : {A : Type 0} (g : GroupState) (site partition : ℕ) (why : Refusal) (act : ServerState → Result A Refusal × ServerState)
-    → place_numbers (Err why) ≡ checked_place g.sites g.partitions site partition → (Err why, g) ≡ on_server g site partition act
+    → (Err why) ≡ checked_place g.sites g.partitions site partition → (Err why, g) ≡ on_server g site partition act
 on_no_place {A} g site partition why act e = by_test (has_server g site partition) e
   where
     by_test : (b : Bool) → ◌≡◌ {A = Result (ℕ × ℕ) Refusal} (Err why) (cond b (Ok (site, partition)) (Err NotInLayout))
@@ -145,11 +147,11 @@ on_no_place {A} g site partition why act e = by_test (has_server g site partitio
 -- a call of the server at p, as the call of the group
 pub on_server_lem : {C K Mark A : Type 0} (rest : Rest) (servers : List (Server C K Mark)) (site partition : ℕ) (place : Place) (p : ℕ) (d new : Server C K Mark) (r : Result A Refusal)
     (act : ServerState → Result A Refusal × ServerState)
-    → place_numbers (Ok place) ≡ checked_place rest.sites rest.partitions site partition → length servers ≡ 16 → p ≡ place_of place.site.number place.partition.number
+    → (Ok place) ≡ checked_place rest.sites rest.partitions site partition → length servers ≡ 16 → IsPlace place → p ≡ place_of place.0 place.1
     → (r, server_view new) ≡ act (server_view (get_or servers p d)) → RefusalKeeps r (server_view (get_or servers p d)) (server_view new)
     → (r, state_with rest (at rest.sites (map server_view (set servers p new)))) ≡ on_server (state_with rest (at rest.sites (map server_view servers))) site partition act
-on_server_lem rest servers site partition place p d new r act found len e step keeps =
-    call_server rest servers place p d new r act len e step keeps ∙ on_place (state_with rest (at rest.sites (map server_view servers))) site partition place act found
+on_server_lem rest servers site partition place p d new r act found len is e step keeps =
+    call_server rest servers place p d new r act len is e step keeps ∙ on_place (state_with rest (at rest.sites (map server_view servers))) site partition place act found
 
 -- a refusal of a server leaves the group as it was
 pub refused_same : {A : Type 0} (g mid : GroupState) (site partition : ℕ) (why : Refusal) (t : Result A Refusal × ServerState)
@@ -176,17 +178,8 @@ on_server_keeps g after site partition r act e = subst (λ t. RefusalKeeps t.0 g
     by_test true t = by_result t
     by_test false t = refl
 
--- the same of a stamp's number
-pub keeps_stamp : {S : Type 0} (before after : S) (r : Result Stamp Refusal) → RefusalKeeps (stamp_number r) before after → RefusalKeeps r before after
-keeps_stamp before after (Ok s) keeps = tt
-keeps_stamp before after (Err why) keeps = keeps
-
-pub keeps_number : {S : Type 0} (before after : S) (r : Result Stamp Refusal) → RefusalKeeps r before after → RefusalKeeps (stamp_number r) before after
-keeps_number before after (Ok s) keeps = tt
-keeps_number before after (Err why) keeps = keeps
-
 -- four servers of each site, as they are made
-abbrev quartets : ServerState → ServerState → ServerState → ServerState → List ServerState
+abbrev pub quartets : ServerState → ServerState → ServerState → ServerState → List ServerState
 quartets a b c d = a ∷ a ∷ a ∷ a ∷ b ∷ b ∷ b ∷ b ∷ c ∷ c ∷ c ∷ c ∷ d ∷ d ∷ d ∷ d ∷ []
 
 pub at_made : (sites : ℕ) (a b c d : ServerState) → a ≡ fresh 0 sites → b ≡ fresh 1 sites → c ≡ fresh 2 sites → d ≡ fresh 3 sites

@@ -2,14 +2,12 @@
 use Rattle.std.specs.Prelude.{ℕ, cond, ◌&&◌, Ok, Err, Result, nat_le, nat_lt}
 use Rattle.stamps.specs.declared.refusal.Refusal.{Refusal}
 use Rattle.stamps.specs.declared.refusal.Refusal.TheVariants.{BadLayout, NotInLayout}
-use Rattle.model.specs.Groups.{is_line, is_server}
+use Rattle.group.specs.Model.Groups.{is_line, is_server}
 use Rattle.group.specs.declared.layout.Layout.{Layout}
-use Rattle.group.specs.declared.partition.Partition.{Partition}
-use Rattle.group.specs.declared.place.Place.{Place}
 
 -- the counts of sites and partitions of a layout that was made, or the refusal
 abbrev pub counts_of : Result Layout Refusal → Result (ℕ × ℕ) Refusal
-counts_of (Ok layout) = Ok (layout.sites.number, layout.partitions)
+counts_of (Ok layout) = Ok (layout.sites, layout.partitions)
 counts_of (Err why) = Err why
 
 -- 2 to 4 sites and 1 to 4 partitions
@@ -21,26 +19,11 @@ checked_counts sites partitions =
 abbrev pub below : ℕ → ℕ → Result ℕ Refusal
 below count number = cond (nat_lt number count) (Ok number) (Err NotInLayout)
 
-abbrev pub partition_number : Result Partition Refusal → Result ℕ Refusal
-partition_number (Ok partition) = Ok partition.number
-partition_number (Err why) = Err why
-
 -- the site and the partition of a server
-abbrev pub numbers_of : Place → ℕ × ℕ
-numbers_of place = (place.site.number, place.partition.number)
-
-abbrev pub place_numbers : Result Place Refusal → Result (ℕ × ℕ) Refusal
-place_numbers (Ok place) = Ok (numbers_of place)
-place_numbers (Err why) = Err why
-
 abbrev pub checked_place : ℕ → ℕ → ℕ → ℕ → Result (ℕ × ℕ) Refusal
 checked_place sites partitions site partition = cond (is_server sites partitions site partition) (Ok (site, partition)) (Err NotInLayout)
 
 -- the two servers of a line
-abbrev pub line_numbers : Result (Place × Place) Refusal → Result ((ℕ × ℕ) × (ℕ × ℕ)) Refusal
-line_numbers (Ok line) = Ok (numbers_of line.0, numbers_of line.1)
-line_numbers (Err why) = Err why
-
 abbrev pub checked_line : ℕ → ℕ → ℕ → ℕ → ℕ → Result ((ℕ × ℕ) × (ℕ × ℕ)) Refusal
 checked_line sites partitions from to partition =
     cond (is_line sites partitions from to partition) (Ok ((from, partition), (to, partition))) (Err NotInLayout)

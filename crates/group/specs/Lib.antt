@@ -1,5 +1,6 @@
+pub mod Model
 pub mod Places
 pub mod Layouts
 pub mod Sessions
-pub mod Answers
+pub mod Parts
 pub mod Groups

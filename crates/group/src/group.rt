@@ -1,34 +1,16 @@
 // The whole group: every server of every site, the sessions and the open snapshots.
-use crate::layout::Layout;
-use crate::seats::Seats;
-use crate::session::Session;
-use fixed_vec::FixedVec;
-use marks::mark_kind::MarkKind;
-use servers::server::Server;
+ghost use Rattle.group.specs.Model.Reached.{Reached};
+ghost use Rattle.group.specs.Parts.{view as parts_view};
+
+use crate::group_parts::GroupParts;
 use stamps::clock_rule::ClockRule;
+use stamps::mark_kind::MarkKind;
 
-pub const MOST_SESSIONS: usize = 8;
-
-// Its calls take plain numbers, and refuse those that the layout lacks.
-//
-// The servers stand site by site, four to a site. Those outside the layout are never used.
-// One array, as a call of an element of an array of arrays gets no proof where the element has ghost fields.
+// Calls lead to every group that there is, from the making of one: nothing else makes or changes a group.
 #[derive(Drop)]
 pub struct Group<C: ClockRule, K: MarkKind> {
-    layout: Layout,
-    servers: [Server<C, K>; 16],
-    sessions: FixedVec<Session, MOST_SESSIONS>,
-    seats: Seats,
-    next_serial: u32,
+    parts: GroupParts<C, K>,
+    ghost reached: { ∥ Reached C.ClockRule.answer K.MarkKind.kind (parts_view parts) ∥₁ },
 }
 
-mod clocks;
-mod delivery;
-mod entries;
-mod makes;
-mod parts;
-mod rows;
-mod sessions;
-mod snapshots;
-mod stability;
-mod tidying;
+mod calls;

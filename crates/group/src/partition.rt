@@ -1,9 +1,21 @@
 // The number of a partition.
-ghost use Rattle.std.specs.Prelude.{◌<◌};
+use std::marker::Model;
 
 // From 0 to 3: a site has at most four servers.
 #[derive(Clone, Copy)]
 pub(crate) struct Partition {
     pub(crate) number: u8,
-    ghost below: { number < 4 },
+}
+
+// In clauses a partition is its number.
+impl Model for Partition {
+    ghost use Rattle.std.specs.Prelude.{ℕ, ◌<◌};
+
+    ghost Value = { ℕ };
+
+    ghost view = { λ p. p.number };
+
+    ghost invariant = { λ p. p.number < 4 };
+
+    ghost inverse = { λ n. record { number = n } };
 }

@@ -1,11 +1,11 @@
 // One client's sequence of calls.
 ghost use Rattle.std.specs.Prelude.{◌≡◌};
-ghost use Rattle.model.specs.Groups.{new_session};
-ghost use Rattle.group.specs.Sessions.{session_state};
+ghost use Rattle.group.specs.Model.Groups.{new_session};
 
 use stamps::row::Row;
 use stamps::site::Site;
 use stamps::stamp::Stamp;
+use std::marker::Model;
 
 // The marks are kept as their rows, so that a session is not generic. `depends` stands for what the session has put and was
 // shown, `knows` for the stable marks that it has met.
@@ -16,9 +16,20 @@ pub(crate) struct Session {
     pub(crate) knows: Row,
 }
 
+// In clauses a session is the model's.
+impl Model for Session {
+    ghost use Rattle.group.specs.Model.Groups.{SessionState};
+
+    ghost Value = { SessionState };
+
+    ghost view = { λ x. record { site = x.site; depends = x.depends; knows = x.knows } };
+
+    ghost inverse = { λ x. record { site = x.site; depends = x.depends; knows = x.knows } };
+}
+
 impl Session {
     pub(crate) fn new(site: Site) -> Session
-        ensures { session_state result ≡ new_session site.number }
+        ensures { result ≡ new_session site }
     {
         let zero = Row::same(Stamp::zero());
         Session {

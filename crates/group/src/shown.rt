@@ -1,13 +1,12 @@
 // What a get or a read shows of its key.
 ghost use Rattle.std.specs.Prelude.{◌≡◌};
-ghost use Rattle.servers.specs.Versions.{plain};
-ghost use Rattle.model.specs.Calls.{shown_of};
-ghost use Rattle.group.specs.Answers.{shown_state};
+ghost use Rattle.group.specs.Model.Calls.{shown_of};
 
 use servers::value::Value;
 use servers::version::Version;
 use stamps::site::Site;
 use stamps::stamp::Stamp;
+use std::marker::Model;
 
 #[derive(Clone, Copy)]
 pub struct Shown {
@@ -17,8 +16,19 @@ pub struct Shown {
     pub source: Site,
 }
 
+// In clauses it is the model's.
+impl Model for Shown {
+    ghost use Rattle.group.specs.Model.Events.{Shown as ShownState};
+
+    ghost Value = { ShownState };
+
+    ghost view = { λ v. record { value = v.value; stamp = v.stamp; source = v.source } };
+
+    ghost inverse = { λ v. record { value = v.value; stamp = v.stamp; source = v.source } };
+}
+
 impl From<&Version> for Shown {
-    ghost from_gives = { λ version shown. shown_state shown ≡ shown_of (plain version.now) };
+    ghost from_gives = { λ version shown. shown ≡ shown_of version.now };
 
     fn from(version: &Version) -> Shown {
         Shown {

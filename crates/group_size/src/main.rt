@@ -2,9 +2,9 @@
 #![tactic(auto)]
 
 use group::group::Group;
-use marks::each::Each;
-use marks::one::One;
+use stamps::each::Each;
 use stamps::hybrid::Hybrid;
+use stamps::one::One;
 use stamps::raw::Raw;
 use std::mem::size_of;
 

@@ -6,12 +6,12 @@ use Rattle.std.proofs.lemmas.List.{append_assoc, get_or_append_left, get_or-appe
 use Rattle.std.proofs.lemmas.List.Elements.{All-cons, All-head, All-nil, All-tail}
 use Rattle.stamps.specs.declared.refusal.Refusal.{Refusal}
 use Rattle.stamps.specs.declared.refusal.Refusal.TheVariants.{ShortCommand}
-use Rattle.commands.specs.declared.command.Command.{Command}
-use Rattle.commands.specs.declared.command.Command.TheVariants.{Layout}
-use Rattle.commands.specs.Commands.{Form, form_of, read_command, read_form}
-use Rattle.commands.specs.Writing.{Bytes, Fits, written}
-use Rattle.commands.proofs.Shorter.{read_shorter}
-use Rattle.commands.proofs.Written.{read_written, written_read}
+use Rattle.script.specs.declared.command.Command.{Command}
+use Rattle.script.specs.declared.command.Command.TheVariants.{Layout}
+use Rattle.script.specs.Commands.{Form, form_of, read_command, read_form}
+use Rattle.script.specs.Writing.{Bytes, Fits, written}
+use Rattle.script.proofs.Shorter.{read_shorter}
+use Rattle.script.proofs.Written.{read_written, written_read}
 use Rattle.script.specs.Answers.{Said, refused}
 use Rattle.script.specs.Laws.{EachShort, IsScript, ListingLaw, answers, answers_from, letter_of, lines_for, listed_lines, rest_answers, unreadable}
 use Rattle.script.specs.Lines.{line_of}

@@ -4,12 +4,12 @@ use Rattle.std.specs.Prelude.{is_ok}
 use Rattle.std.proofs.lemmas.Bool.{cond_both}
 use Rattle.stamps.specs.declared.refusal.Refusal.{Refusal}
 use Rattle.stamps.specs.Outside.{and_then}
-use Rattle.model.specs.Groups.{GroupState}
+use Rattle.group.specs.Model.Groups.{GroupState}
 use Rattle.group.specs.Layouts.{checked_counts}
-use Rattle.commands.specs.declared.command.Command.{Command}
-use Rattle.commands.specs.declared.command.Command.TheVariants.{Layout}
-use Rattle.commands.specs.Commands.{read_command}
-use Rattle.commands.proofs.Shorter.{read_shorter}
+use Rattle.script.specs.declared.command.Command.{Command}
+use Rattle.script.specs.declared.command.Command.TheVariants.{Layout}
+use Rattle.script.specs.Commands.{read_command}
+use Rattle.script.proofs.Shorter.{read_shorter}
 use Rattle.script.specs.declared.choice.Clock.{Clock}
 use Rattle.script.specs.declared.choice.Marks.{Marks}
 use Rattle.script.specs.Counting.{goes_on, left_after, left_by}

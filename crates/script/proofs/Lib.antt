@@ -1,3 +1,7 @@
+pub mod Formed
+pub mod Shorter
+pub mod Numbers
+pub mod Written
 pub mod Counts
 pub mod FirstBytes
 pub mod Answered

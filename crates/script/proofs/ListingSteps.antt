@@ -3,12 +3,12 @@ use Rattle.std.proofs.Common.{◌≡◌, ℕ, ◌+◌, List, [], ◌∷◌, ◌+
 use Rattle.std.proofs.Math.Seq.{take-append-add}
 use Rattle.std.proofs.lemmas.List.{length-append}
 use Rattle.stamps.specs.declared.refusal.Refusal.{Refusal}
-use Rattle.model.specs.Groups.{GroupState}
-use Rattle.commands.specs.declared.command.Command.{Command}
-use Rattle.commands.specs.declared.command.Command.TheVariants.{Layout}
-use Rattle.commands.specs.Commands.{read_command}
-use Rattle.commands.specs.Writing.{Fits, written}
-use Rattle.commands.proofs.Written.{written_read}
+use Rattle.group.specs.Model.Groups.{GroupState}
+use Rattle.script.specs.declared.command.Command.{Command}
+use Rattle.script.specs.declared.command.Command.TheVariants.{Layout}
+use Rattle.script.specs.Commands.{read_command}
+use Rattle.script.specs.Writing.{Fits, written}
+use Rattle.script.proofs.Written.{written_read}
 use Rattle.script.specs.declared.choice.Clock.{Clock}
 use Rattle.script.specs.declared.choice.Marks.{Marks}
 use Rattle.script.specs.Answers.{Said, done}

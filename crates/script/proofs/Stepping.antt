@@ -2,8 +2,8 @@
 use Rattle.std.proofs.Common.{◌≡◌, ℕ, ◌<◌, ◌≤◌, List, [], ◌∷◌, length, get_or, Some, Ok, Err, Result, sym, refl, ap, ◌∙◌, arith}
 use Rattle.std.proofs.lemmas.List.{length-take}
 use Rattle.stamps.specs.declared.refusal.Refusal.{Refusal}
-use Rattle.commands.specs.declared.command.Command.{Command}
-use Rattle.commands.specs.Commands.{read_command}
+use Rattle.script.specs.declared.command.Command.{Command}
+use Rattle.script.specs.Commands.{read_command}
 use Rattle.script.specs.Answers.{Said}
 use Rattle.script.specs.Scripts.{Obeying, ScriptState, begun, next, next_at, numbered, stepped, stepped_by, stepped_to}
 

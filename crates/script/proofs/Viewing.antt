@@ -1,11 +1,11 @@
 -- The calls of a command that reads two keys by one snapshot.
 use Rattle.std.proofs.Common.{◌≡◌, ℕ, Ok, Option, Result, ap, ◌∙◌}
 use Rattle.stamps.specs.declared.refusal.Refusal.{Refusal}
-use Rattle.marks.specs.Kinds.{Kind}
+use Rattle.stamps.specs.Kinds.{Kind}
 use Rattle.servers.specs.Servers.{Rule}
-use Rattle.model.specs.Events.{Done, Shown, Ticket, open_snapshot, read, close}
-use Rattle.model.specs.Groups.{GroupState}
-use Rattle.model.specs.Calls.{asked}
+use Rattle.group.specs.Model.Events.{Done, Shown, Ticket, open_snapshot, read, close}
+use Rattle.group.specs.Model.Groups.{GroupState}
+use Rattle.group.specs.Model.Calls.{asked}
 use Rattle.script.specs.Answers.{Said, both}
 use Rattle.script.specs.Steps.{viewed, viewed_as}
 

@@ -1,13 +1,14 @@
 -- Answers, and what is printed of each.
 use Rattle.std.specs.Prelude.{ℕ, List, ◌++◌, ℤ, Some, None, Ok, Err, Option, Result, codes, decimal}
 use Rattle.std.specs.Fmt.{signed_decimal}
-use Rattle.std.specs.Option.{option_map}
 use Rattle.stamps.specs.declared.refusal.Refusal.{Refusal}
 use Rattle.stamps.specs.Refusals.{number_of}
 use Rattle.stamps.specs.Stamps.{time_of, count_of}
-use Rattle.servers.specs.Values.{Worth, gone, price, percent, part, sheet}
-use Rattle.model.specs.Events.{Shown}
-use Rattle.group.specs.Answers.{shown_state, shown_numbers}
+use Rattle.servers.specs.declared.value.Value.{Value}
+use Rattle.servers.specs.declared.value.Value.TheVariants.{Gone, Price, Percent, Basis as BasisOf}
+use Rattle.servers.specs.declared.value.Basis.{Basis}
+use Rattle.servers.specs.declared.value.Basis.TheVariants.{Part, Sheet}
+use Rattle.group.specs.Model.Events.{Shown}
 use Rattle.script.specs.declared.answer.Answer.{Answer}
 use Rattle.script.specs.declared.answer.Answer.TheVariants as answer
 
@@ -25,9 +26,9 @@ abbrev pub said : Answer → Said
 said answer.Done = done
 said (answer.Count n) = count n
 said (answer.Number n) = number n
-said (answer.Stamped s) = stamped s.value
-said (answer.Shown v) = shown (option_map shown_state v)
-said (answer.Both a b) = both (shown_numbers a) (shown_numbers b)
+said (answer.Stamped s) = stamped s
+said (answer.Shown v) = shown v
+said (answer.Both a b) = both a b
 said (answer.Refused why) = refused why
 
 -- a stamp as time.count
@@ -37,12 +38,15 @@ stamp_text s = decimal (time_of s) ++ codes "." ++ decimal (count_of s)
 abbrev pub refusal_text : Refusal → List ℕ
 refusal_text why = codes "no " ++ decimal (number_of why)
 
-abbrev pub value_text : Worth → List ℕ
-value_text gone = codes "gone"
-value_text (price cents) = codes "price " ++ decimal cents
-value_text (percent hundredths) = codes "percent " ++ decimal hundredths
-value_text part = codes "basis part"
-value_text sheet = codes "basis sheet"
+abbrev pub basis_text : Basis → List ℕ
+basis_text Part = codes "basis part"
+basis_text Sheet = codes "basis sheet"
+
+abbrev pub value_text : Value → List ℕ
+value_text Gone = codes "gone"
+value_text (Price cents) = codes "price " ++ decimal cents
+value_text (Percent hundredths) = codes "percent " ++ decimal hundredths
+value_text (BasisOf basis) = basis_text basis
 
 -- a version as its value, its stamp and its source
 abbrev pub version_text : Shown → List ℕ

@@ -1,9 +1,9 @@
 -- Where a listing ends: the commands alone decide it, whatever a group answers. For functions inside the crate.
 use Rattle.std.specs.Prelude.{ℕ, Bool, true, false, cond, List, [], Ok, Err, Result, is_ok}
 use Rattle.stamps.specs.declared.refusal.Refusal.{Refusal}
-use Rattle.commands.specs.declared.command.Command.{Command}
-use Rattle.commands.specs.declared.command.Command.TheVariants.{Layout}
-use Rattle.commands.specs.Commands.{read_command}
+use Rattle.script.specs.declared.command.Command.{Command}
+use Rattle.script.specs.declared.command.Command.TheVariants.{Layout}
+use Rattle.script.specs.Commands.{read_command}
 use Rattle.script.specs.Stores.{made_store}
 
 -- whether the listing goes on after a command, by whether a group was made before it

@@ -3,9 +3,9 @@ use Rattle.std.specs.Prelude.{◌≡◌, ℕ, ◌+◌, ◌≤◌, List, [], ◌�
 use Rattle.std.specs.List.{All, concat}
 use Rattle.stamps.specs.declared.refusal.Refusal.{Refusal}
 use Rattle.stamps.specs.declared.refusal.Refusal.TheVariants.{ShortCommand, UnknownLetter}
-use Rattle.commands.specs.declared.command.Command.{Command}
-use Rattle.commands.specs.Commands.{Form, form_of}
-use Rattle.commands.specs.Writing.{Fits, written}
+use Rattle.script.specs.declared.command.Command.{Command}
+use Rattle.script.specs.Commands.{Form, form_of}
+use Rattle.script.specs.Writing.{Fits, written}
 use Rattle.script.specs.Answers.{Said, refused}
 use Rattle.script.specs.Lines.{line_of}
 use Rattle.script.specs.Scripts.{script_of}

@@ -1,3 +1,6 @@
+pub mod Commands
+pub mod Writing
+pub mod ReaderLaws
 pub mod Answers
 pub mod Steps
 pub mod Stores

@@ -1,7 +1,7 @@
 -- The line of a command, and text that grows to a line.
 use Rattle.std.specs.Prelude.{ℕ, List, ◌∷◌, ◌++◌, take, Some, None, Option, codes, decimal}
 use Rattle.fixed_vec.specs.Items.{items}
-use Rattle.commands.specs.Commands.{Form, form_of}
+use Rattle.script.specs.Commands.{Form, form_of}
 use Rattle.script.specs.Answers.{Said, printed}
 use Rattle.script.specs.declared.line.Line.{Line}
 

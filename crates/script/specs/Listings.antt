@@ -1,9 +1,9 @@
 -- A script over a group that the caller made, of any clock rule and kind of mark; a whole one goes on so after its layout.
 use Rattle.std.specs.Prelude.{◌≡◌, ℕ, List, ◌++◌, take, Some, Ok, Option}
 use Rattle.std.specs.Option.{option_map}
-use Rattle.model.specs.Groups.{GroupState}
-use Rattle.commands.specs.declared.command.Command.TheVariants.{Layout}
-use Rattle.commands.specs.Writing.{Fits, written}
+use Rattle.group.specs.Model.Groups.{GroupState}
+use Rattle.script.specs.declared.command.Command.TheVariants.{Layout}
+use Rattle.script.specs.Writing.{Fits, written}
 use Rattle.script.specs.declared.choice.Clock.{Clock}
 use Rattle.script.specs.declared.choice.Marks.{Marks}
 use Rattle.script.specs.Answers.{done}

@@ -3,8 +3,8 @@ use Rattle.std.specs.Prelude.{ℕ, zero, suc, ◌+◌, ◌*◌, cond, List, [], 
 use Rattle.std.specs.List.{concat}
 use Rattle.stamps.specs.declared.refusal.Refusal.{Refusal}
 use Rattle.stamps.specs.declared.refusal.Refusal.TheVariants.{ShortBuffer}
-use Rattle.commands.specs.declared.command.Command.{Command}
-use Rattle.commands.specs.Commands.{read_command}
+use Rattle.script.specs.declared.command.Command.{Command}
+use Rattle.script.specs.Commands.{read_command}
 use Rattle.script.specs.declared.script.ScriptOver.{ScriptOver}
 use Rattle.script.specs.Answers.{Said, refused}
 use Rattle.script.specs.Lines.{line_of}

@@ -2,14 +2,14 @@
 use Rattle.std.specs.Prelude.{◌≡◌, ℕ, Ok, Err, Result, MatchResult}
 use Rattle.stamps.specs.declared.refusal.Refusal.{Refusal}
 use Rattle.stamps.specs.declared.refusal.Refusal.TheVariants.{LayoutMisplaced}
-use Rattle.marks.specs.Kinds.{Kind}
+use Rattle.stamps.specs.Kinds.{Kind}
 use Rattle.servers.specs.Servers.{Rule}
-use Rattle.model.specs.Events as call
-use Rattle.model.specs.Events.{Call, Answered, Ticket}
-use Rattle.model.specs.Groups.{GroupState}
-use Rattle.model.specs.Calls.{asked}
-use Rattle.commands.specs.declared.command.Command.{Command}
-use Rattle.commands.specs.declared.command.Command.TheVariants.{Layout, OpenSession, Tell, Put, Get, Heartbeat, Deliver, Report, Stabilise, Tidy, Lead, View}
+use Rattle.group.specs.Model.Events as call
+use Rattle.group.specs.Model.Events.{Call, Answered, Ticket}
+use Rattle.group.specs.Model.Groups.{GroupState}
+use Rattle.group.specs.Model.Calls.{asked}
+use Rattle.script.specs.declared.command.Command.{Command}
+use Rattle.script.specs.declared.command.Command.TheVariants.{Layout, OpenSession, Tell, Put, Get, Heartbeat, Deliver, Report, Stabilise, Tidy, Lead, View}
 use Rattle.script.specs.declared.answer.Answer.{Answer}
 use Rattle.script.specs.declared.answer.Answer.TheVariants.{Refused}
 use Rattle.script.specs.Answers.{Said, done, count, number, stamped, shown, both, refused, said}

@@ -4,15 +4,15 @@ use Rattle.stamps.specs.declared.refusal.Refusal.{Refusal}
 use Rattle.stamps.specs.declared.refusal.Refusal.TheVariants.{BadLayout, LayoutMisplaced}
 use Rattle.stamps.specs.Clocks as clocks
 use Rattle.stamps.specs.Outside.{and_then}
-use Rattle.marks.specs.Kinds.{Kind}
-use Rattle.marks.specs.BuiltKinds.{one_kind, each_kind}
+use Rattle.stamps.specs.Kinds.{Kind}
+use Rattle.stamps.specs.BuiltKinds.{one_kind, each_kind}
 use Rattle.servers.specs.Servers.{Rule}
-use Rattle.model.specs.Groups as model
-use Rattle.model.specs.Groups.{GroupState}
+use Rattle.group.specs.Model.Groups as model
+use Rattle.group.specs.Model.Groups.{GroupState}
 use Rattle.group.specs.Groups as group
 use Rattle.group.specs.Layouts.{checked_counts}
-use Rattle.commands.specs.declared.command.Command.{Command}
-use Rattle.commands.specs.declared.command.Command.TheVariants.{Layout}
+use Rattle.script.specs.declared.command.Command.{Command}
+use Rattle.script.specs.declared.command.Command.TheVariants.{Layout}
 use Rattle.script.specs.declared.any_group.AnyGroup.{AnyGroup}
 use Rattle.script.specs.declared.any_group.AnyGroup.TheVariants.{Unmade, RawOne, RawEach, HybridOne, HybridEach}
 use Rattle.script.specs.declared.choice.Choice.{Choice}
@@ -77,7 +77,7 @@ obeyed (made clock marks g) command = keeping clock marks (performed (clock_rule
 
 -- the new group of a choice
 abbrev pub chosen_store : Choice → Store
-chosen_store choice = made choice.clock choice.marks (model.made choice.layout.sites.number choice.layout.partitions)
+chosen_store choice = made choice.clock choice.marks (model.made choice.layout.sites choice.layout.partitions)
 
 -- the store of what was made, or the refusal
 abbrev pub store_as : {A : Type 0} → (A → Store) → Result A Refusal → Result Store Refusal

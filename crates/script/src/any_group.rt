@@ -1,18 +1,18 @@
 // A group of any of the clock rules and kinds of mark that are built, or none yet.
 ghost use Rattle.std.specs.Prelude.{◌≡◌, is_ok};
-ghost use Rattle.script.specs.Kept.{Keeps, KeepsOr};
+ghost use Rattle.script.specs.Kept.{Keeps, KeepsOr, KeptOn};
 ghost use Rattle.script.specs.Steps.{said_or};
 ghost use Rattle.script.specs.Stores.{Store, obeyed, made_store, chosen_store, store, store_as, done_if_made, unmade};
 
 use crate::answer::Answer;
 use crate::choice::{Choice, Clock, Marks};
+use crate::command::Command;
 use crate::obeys::Obeys;
 use crate::perform::perform;
-use commands::command::Command;
 use group::group::Group;
-use marks::each::Each;
-use marks::one::One;
+use stamps::each::Each;
 use stamps::hybrid::Hybrid;
+use stamps::one::One;
 use stamps::raw::Raw;
 use stamps::refusal::Refusal;
 
@@ -46,14 +46,32 @@ impl Obeys for AnyGroup {
 }
 
 impl AnyGroup {
+    // Does nothing. Its contract is the theorem, for whichever group it is.
+    pub fn promises(&self)
+        ensures { KeptOn (store self.now) }
+    {
+        match self {
+            AnyGroup::Unmade => {}
+            AnyGroup::RawOne(group) => group.promises(),
+            AnyGroup::RawEach(group) => group.promises(),
+            AnyGroup::HybridOne(group) => group.promises(),
+            AnyGroup::HybridEach(group) => group.promises(),
+        }
+    }
+
     // Makes the group of the first command. It is kept out of `obey`, which would pay for its large locals at each command.
     #[inline(never)]
     fn make(&mut self, command: Command) -> Result<Answer, Refusal>
         requires { store self.old ≡ unmade }
         ensures { (said_or result, store self.new) ≡ done_if_made (made_store command) }
     {
-        *self = make_group(command)?;
-        Ok(Answer::Done)
+        match make_group(command) {
+            Ok(made) => {
+                *self = made;
+                Ok(Answer::Done)
+            }
+            Err(why) => Err(why),
+        }
     }
 }
 

@@ -2,7 +2,7 @@
 ghost use Rattle.std.specs.Prelude.{◌≡◌};
 ghost use Rattle.script.specs.Stores.{clock_of, marks_of, made_store, chosen_store, store_as};
 
-use commands::command::Command;
+use crate::command::Command;
 use group::layout::{Draft, Layout};
 use stamps::refusal::Refusal;
 

@@ -1,13 +1,15 @@
-// The step script: commands to answers, answers to lines, a script to its listing.
+// The step script: bytes to commands, commands to answers, answers to lines, a script to its listing.
 #![tactic(auto)]
 
 pub mod answer;
 pub mod any_group;
 mod choice;
+pub mod command;
 pub mod line;
 pub mod list;
 pub mod listing;
 pub mod obeys;
 mod perform;
+pub mod reader;
 pub mod script;
 pub mod worked_case;

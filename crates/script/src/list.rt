@@ -5,10 +5,10 @@ ghost use Rattle.script.specs.Laws.{ListingLaw};
 ghost use Rattle.script.specs.Scripts.{lines_of, listing, listing_into};
 
 use crate::any_group::makes_group;
+use crate::command::Command;
 use crate::line::MOST_BYTES;
+use crate::reader::read;
 use crate::script::{Script, script_of};
-use commands::command::Command;
-use commands::reader::read;
 use stamps::refusal::Refusal;
 use std::alloc::{AllocError, Global};
 

@@ -6,8 +6,8 @@ ghost use Rattle.group.specs.Groups.{view as group_view};
 
 use crate::script::{MOST_SCRIPT_BYTES, ScriptOver, first_bytes};
 use group::group::Group;
-use marks::mark_kind::MarkKind;
 use stamps::clock_rule::ClockRule;
+use stamps::mark_kind::MarkKind;
 
 pub type Listing<'a, C, K> = ScriptOver<'a, Group<C, K>>;
 

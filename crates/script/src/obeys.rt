@@ -1,18 +1,18 @@
 // What obeys the commands of a script.
 ghost use Rattle.std.specs.Prelude.{◌≡◌, Result};
 ghost use Rattle.stamps.specs.declared.refusal.Refusal.{Refusal};
-ghost use Rattle.commands.specs.declared.command.Command.{Command};
+ghost use Rattle.script.specs.declared.command.Command.{Command};
 ghost use Rattle.group.specs.Groups.{view as group_view};
-ghost use Rattle.model.specs.Groups.{GroupState};
+ghost use Rattle.group.specs.Model.Groups.{GroupState};
 ghost use Rattle.script.specs.Answers.{Said};
 ghost use Rattle.script.specs.Steps.{said_or, performed};
 
 use crate::answer::Answer;
+use crate::command::Command;
 use crate::perform::perform;
-use commands::command::Command;
 use group::group::Group;
-use marks::mark_kind::MarkKind;
 use stamps::clock_rule::ClockRule;
+use stamps::mark_kind::MarkKind;
 use stamps::refusal::Refusal;
 
 // A group, or one that a layout has still to make.

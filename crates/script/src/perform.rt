@@ -5,10 +5,10 @@ ghost use Rattle.script.specs.Answers.{said};
 ghost use Rattle.script.specs.Steps.{performed, viewed, said_as, said_or, SaidBy};
 
 use crate::answer::Answer;
-use commands::command::Command;
+use crate::command::Command;
 use group::group::Group;
-use marks::mark_kind::MarkKind;
 use stamps::clock_rule::ClockRule;
+use stamps::mark_kind::MarkKind;
 use stamps::refusal::Refusal;
 
 // A group has its layout already, so a second one ends the listing.

@@ -2,50 +2,51 @@
 use Rattle.std.proofs.Common.{◌≡◌, ℕ, Bool, true, false, cond, ◌&&◌, eqb, ◌⊎◌, List, [], ◌∷◌, Some, None, Option, sym, refl, ◌∙◌, subst, inl, inr, ⊎_elim, arith}
 use Rattle.std.proofs.lemmas.Bool.{and_from, and_parts, eq-eqb, eqb-true, false≢true}
 use Rattle.std.proofs.lemmas.Bool.Decides.{nat_tests}
-use Rattle.servers.specs.Versions.{VersionState, later}
+use Rattle.servers.specs.Versions.{later}
+use Rattle.servers.specs.declared.version.Version.{Version}
 use Rattle.servers.specs.Tables.{better, latest, latest_from}
 use Rattle.servers.specs.Laws.{AsLate, In, IsLatest, Later, Passes}
 
-pub later_gives : (v w : VersionState) → later v w ≡ true → Later v w
+pub later_gives : (v w : Version) → later v w ≡ true → Later v w
 later_gives v w e = (grind (arith, nat_tests), λ s. grind (arith, nat_tests))
 
-pub later_not : (v w : VersionState) → later v w ≡ false → AsLate w v
+pub later_not : (v w : Version) → later v w ≡ false → AsLate w v
 later_not v w e = (grind (arith, nat_tests), λ s. grind (arith, nat_tests))
 
-pub later_from : (v w : VersionState) → Later v w → later v w ≡ true
+pub later_from : (v w : Version) → Later v w → later v w ≡ true
 later_from v w l = grind (arith, nat_tests, l.0, l.1)
 
-as_late_self : (v : VersionState) → AsLate v v
+as_late_self : (v : Version) → AsLate v v
 as_late_self v = (omega arith, λ s. omega arith)
 
-pub as_late_trans : (u v w : VersionState) → AsLate u v → AsLate v w → AsLate u w
+pub as_late_trans : (u v w : Version) → AsLate u v → AsLate v w → AsLate u w
 as_late_trans u v w p q = (omega arith, λ s. omega (arith, p.1, q.1))
 
-pub as_late_later : (u v w : VersionState) → AsLate u v → Later v w → Later u w
+pub as_late_later : (u v w : Version) → AsLate u v → Later v w → Later u w
 as_late_later u v w p q = (omega arith, λ s. omega (arith, p.1, q.1))
 
-pub later_as_late : (v w : VersionState) → Later v w → AsLate v w
+pub later_as_late : (v w : Version) → Later v w → AsLate v w
 later_as_late v w l = (l.0, λ s. let h = l.1 s in omega arith)
 
-pub not_both : (v w : VersionState) → AsLate v w → Later w v → ⊥
+pub not_both : (v w : Version) → AsLate v w → Later w v → ⊥
 not_both v w p q =
     let same : w.stamp ≡ v.stamp = omega arith in
     let a = p.1 same in
     let b = q.1 (sym same) in
     omega arith
 
-module _ (shows : VersionState → Bool) (key : ℕ) where
+module _ (shows : Version → Bool) (key : ℕ) where
   -- what the search gives of what was found before and a list
-  abbrev Outcome : Option VersionState → List VersionState → Option VersionState → Type 0
-  Outcome found vs None = (found ≡ None) × ((v : VersionState) → In v vs → Passes shows key v → ⊥)
+  abbrev Outcome : Option Version → List Version → Option Version → Type 0
+  Outcome found vs None = (found ≡ None) × ((v : Version) → In v vs → Passes shows key v → ⊥)
   Outcome found vs (Some b) =
       ((found ≡ Some b) ⊎ (In b vs × Passes shows key b))
-      × ((v : VersionState) → In v vs → Passes shows key v → AsLate b v)
-      × ((a : VersionState) → found ≡ Some a → AsLate b a)
+      × ((v : Version) → In v vs → Passes shows key v → AsLate b v)
+      × ((a : Version) → found ≡ Some a → AsLate b a)
 
   -- v does not take the place of what was found
-  passed_over : (found : Option VersionState) (v : VersionState) (vs : List VersionState) (r : Option VersionState)
-      → ((a : VersionState) → found ≡ Some a → Passes shows key v → AsLate a v) → (found ≡ None → Passes shows key v → ⊥)
+  passed_over : (found : Option Version) (v : Version) (vs : List Version) (r : Option Version)
+      → ((a : Version) → found ≡ Some a → Passes shows key v → AsLate a v) → (found ≡ None → Passes shows key v → ⊥)
       → Outcome found vs r → Outcome found (v ∷ vs) r
   passed_over found v vs None worse never o =
       (o.0, λ w i p. ⊎_elim (λ e. never o.0 (subst (Passes shows key) e p)) (λ j. o.1 w j p) i)
@@ -55,13 +56,13 @@ module _ (shows : VersionState → Bool) (key : ℕ) where
     o.2,
   )
     where
-      over_found : (f : Option VersionState) → Passes shows key v → (f ≡ None → Passes shows key v → ⊥) → ((a : VersionState) → f ≡ Some a → Passes shows key v → AsLate b v) → AsLate b v
+      over_found : (f : Option Version) → Passes shows key v → (f ≡ None → Passes shows key v → ⊥) → ((a : Version) → f ≡ Some a → Passes shows key v → AsLate b v) → AsLate b v
       over_found None p never' late = absurd (never' refl p)
       over_found (Some a) p never' late = late a refl p
 
   -- v takes the place of what was found
-  taken_up : (found : Option VersionState) (v : VersionState) (vs : List VersionState) (r : Option VersionState)
-      → Passes shows key v → ((a : VersionState) → found ≡ Some a → Later v a)
+  taken_up : (found : Option Version) (v : Version) (vs : List Version) (r : Option Version)
+      → Passes shows key v → ((a : Version) → found ≡ Some a → Later v a)
       → Outcome (Some v) vs r → Outcome found (v ∷ vs) r
   taken_up found v vs None passes over o = let z : ◌≡◌ {A = ℕ} 0 1 = cc in absurd (omega arith)
   taken_up found v vs (Some b) passes over o =
@@ -71,7 +72,7 @@ module _ (shows : VersionState → Bool) (key : ℕ) where
         λ a e. as_late_trans b v a late (later_as_late v a (over a e)),
       )
 
-  better_outcome : (found : Option VersionState) (v : VersionState) (vs : List VersionState) (r : Option VersionState) → Outcome (better shows key found v) vs r → Outcome found (v ∷ vs) r
+  better_outcome : (found : Option Version) (v : Version) (vs : List Version) (r : Option Version) → Outcome (better shows key found v) vs r → Outcome found (v ∷ vs) r
   better_outcome None v vs r o = go (eqb v.key key && shows v) refl o
     where
       go : (t : Bool) → (eqb v.key key && shows v) ≡ t → Outcome (cond t (Some v) None) vs r → Outcome None (v ∷ vs) r
@@ -97,14 +98,14 @@ module _ (shows : VersionState → Bool) (key : ℕ) where
           not_later true is p = absurd (false≢true (sym e ∙ and_from (eqb v.key key) (shows v && later v a) (eq-eqb v.key key p.0) (and_from (shows v) (later v a) p.1 is)))
           not_later false is p = refl
 
-  outcome : (found : Option VersionState) (vs : List VersionState) → Outcome found vs (latest_from shows key found vs)
+  outcome : (found : Option Version) (vs : List Version) → Outcome found vs (latest_from shows key found vs)
   outcome None [] = (refl, λ v i p. i)
   outcome (Some a) [] = (inl refl, λ v i p. absurd i, λ b e. let same : a ≡ b = cc in subst (AsLate a) same (as_late_self a))
   outcome found (v ∷ vs) = better_outcome found v vs (latest_from shows key (better shows key found v) vs) (outcome (better shows key found v) vs)
 
-  settled : (vs : List VersionState) (r : Option VersionState) → Outcome None vs r → IsLatest shows key vs r
+  settled : (vs : List Version) (r : Option Version) → Outcome None vs r → IsLatest shows key vs r
   settled vs None o = o.1
   settled vs (Some b) o = ⊎_elim (λ e. let z : ◌≡◌ {A = ℕ} 0 1 = cc in absurd (omega arith)) (λ h. (h.0, h.1, o.1)) o.0
 
-  pub latest_law : (vs : List VersionState) → IsLatest shows key vs (latest shows key vs)
+  pub latest_law : (vs : List Version) → IsLatest shows key vs (latest shows key vs)
   latest_law vs = settled vs (latest shows key vs) (outcome None vs)

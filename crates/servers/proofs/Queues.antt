@@ -6,7 +6,7 @@ use Rattle.std.proofs.lemmas.Bool.{cases_Bool, cond_both, cond-false, cond-true,
 use Rattle.std.proofs.lemmas.Bool.Decides.{nat_tests}
 use Rattle.stamps.specs.Rows.{Four, at, greatest, with_entry}
 use Rattle.servers.specs.Counting.{one_more}
-use Rattle.servers.specs.Entries.{Sent}
+use Rattle.servers.specs.declared.entry.Entry.{Entry}
 use Rattle.servers.specs.Lefts.{OthersOnly}
 use Rattle.servers.specs.Others.{is_other}
 use Rattle.servers.proofs.RowEntries.{at_other, at_same, by_site}
@@ -51,7 +51,7 @@ pub left_within : (left : Four) (n i : ℕ) → greatest left ≡ n → at left 
 left_within left n i e = grind (arith, nat_tests)
 
 -- the outbox is full exactly if it holds 16 entries
-pub full_is : (own sites : ℕ) (es : List Sent) (left : Four) → OthersOnly own sites left → greatest left ≡ length es → leb 16 (length es) ≡ outbox_full own sites (last_for es left)
+pub full_is : (own sites : ℕ) (es : List Entry) (left : Four) → OthersOnly own sites left → greatest left ≡ length es → leb 16 (length es) ≡ outbox_full own sites (last_for es left)
 full_is own sites es left others needed =
     let a = last_length es left.site0 (omega arith) in
     let b = last_length es left.site1 (omega arith) in
@@ -64,7 +64,7 @@ full_is own sites es left others needed =
     full_of p q r s left n z e = grind (arith, nat_tests, cases_Bool p, cases_Bool q, cases_Bool r, cases_Bool s)
 
 -- one entry more, for a site that takes it or not
-push_for : (o : Bool) (es : List Sent) (e : Sent) (l l' : ℕ) → l ≤ length es → (o ≡ false → l ≡ 0) → l' ≡ l + cond o 1 0
+push_for : (o : Bool) (es : List Entry) (e : Entry) (l l' : ℕ) → l ≤ length es → (o ≡ false → l ≡ 0) → l' ≡ l + cond o 1 0
     → drop (length (es ++ e ∷ []) - l') (es ++ e ∷ []) ≡ cond o (drop (length es - l) es ++ e ∷ []) (drop (length es - l) es)
 push_for true es e l l' h none is = ap (λ m. drop (length (es ++ e ∷ []) - m) (es ++ e ∷ [])) is ∙ last_push es e l h
 push_for false es e l l' h none is = let z = none refl in last_none (es ++ e ∷ []) l' (omega arith) ∙ sym (last_none es l z)
@@ -72,10 +72,10 @@ push_for false es e l l' h none is = let z = none refl in last_none (es ++ e ∷
 past_other : (own sites n : ℕ) → sites ≤ 4 → is_other own sites (suc (suc (suc (suc n)))) ≡ false
 past_other own sites n h = grind (arith, nat_tests)
 
-past_last : (es : List Sent) (left : Four) (n : ℕ) → last_for es left (suc (suc (suc (suc n)))) ≡ []
+past_last : (es : List Entry) (left : Four) (n : ℕ) → last_for es left (suc (suc (suc (suc n)))) ≡ []
 past_last es left n = cond-false (ltb (suc (suc (suc (suc n)))) 4) (drop (length es - at left (suc (suc (suc (suc n))))) es) [] (le-ltb (suc (suc (suc (suc n)))) 4 (omega arith))
 
-issue_is : (own sites : ℕ) (es : List Sent) (e : Sent) (left left' : Four) → sites ≤ 4 → OthersOnly own sites left → greatest left ≡ length es
+issue_is : (own sites : ℕ) (es : List Entry) (e : Entry) (left left' : Four) → sites ≤ 4 → OthersOnly own sites left → greatest left ≡ length es
     → left'.site0 ≡ left.site0 + cond (is_other own sites 0) 1 0
     → left'.site1 ≡ left.site1 + cond (is_other own sites 1) 1 0
     → left'.site2 ≡ left.site2 + cond (is_other own sites 2) 1 0
@@ -116,7 +116,7 @@ issue_left own sites left left' n some others needed a b c d = (
 )
 
 -- after a take: one fewer for the taker
-taken_for : (taker i : ℕ) (es : List Sent) (l l' : ℕ) → l ≤ length es → (i ≡ taker → l' ≡ l - 1) → ((i ≡ taker → ⊥) → l' ≡ l)
+taken_for : (taker i : ℕ) (es : List Entry) (l l' : ℕ) → l ≤ length es → (i ≡ taker → l' ≡ l - 1) → ((i ≡ taker → ⊥) → l' ≡ l)
     → drop (length es - l') es ≡ cond (eqb i taker) (drop 1 (drop (length es - l) es)) (drop (length es - l) es)
 taken_for taker i es l l' h same other =
     cond_both (eqb i taker) (drop 1 (drop (length es - l) es)) (drop (length es - l) es) (λ t. drop (length es - l') es ≡ t)
@@ -124,7 +124,7 @@ taken_for taker i es l l' h same other =
     (λ e. ap (λ m. drop (length es - m) es) (other (eqb-false i taker e)))
 
 -- the queues, with left as a record: the taker has one fewer, the others as many as before
-take_is : (taker : ℕ) (es : List Sent) (left left' : Four) → taker < 4 → greatest left ≡ length es → ((i : ℕ) → i ≡ taker → at left' i ≡ at left i - 1) → ((i : ℕ) → i < 4 → (i ≡ taker → ⊥) → at left' i ≡ at left i)
+take_is : (taker : ℕ) (es : List Entry) (left left' : Four) → taker < 4 → greatest left ≡ length es → ((i : ℕ) → i ≡ taker → at left' i ≡ at left i - 1) → ((i : ℕ) → i < 4 → (i ≡ taker → ⊥) → at left' i ≡ at left i)
     → last_for es left' ≡ taken_by (last_for es left) taker
 take_is taker es left left' few needed same other =
     fun_ext (by_site (λ i. last_for es left' i ≡ taken_by (last_for es left) taker i)
@@ -135,7 +135,7 @@ take_is taker es left left' few needed same other =
     (λ n. past_last es left' n ∙ sym (cond-false (eqb (suc (suc (suc (suc n)))) taker) _ (last_for es left (suc (suc (suc (suc n))))) (ne_eqb (suc (suc (suc (suc n)))) taker (λ e. omega arith)) ∙ past_last es left n)))
 
 -- only as many entries are kept as some site has still to take, and every queue stays
-pub kept_queues : (es : List Sent) (left : Four) → greatest left ≤ length es → last_for (drop (length es - greatest left) es) left ≡ last_for es left
+pub kept_queues : (es : List Entry) (left : Four) → greatest left ≤ length es → last_for (drop (length es - greatest left) es) left ≡ last_for es left
 kept_queues es left h =
     let g = greatest left in
     fun_ext (by_site (λ i. last_for (drop (length es - g) es) left i ≡ last_for es left i)
@@ -143,17 +143,17 @@ kept_queues es left h =
     (λ n. past_last (drop (length es - g) es) left n ∙ sym (past_last es left n)))
 
 -- the queue of a site
-last_at : (es : List Sent) (left : Four) (i : ℕ) → i < 4 → last_for es left i ≡ drop (length es - at left i) es
+last_at : (es : List Entry) (left : Four) (i : ℕ) → i < 4 → last_for es left i ≡ drop (length es - at left i) es
 last_at es left i h = cond-true (ltb i 4) (drop (length es - at left i) es) [] (lt-ltb i 4 h)
 
-pub next_none : (es : List Sent) (left : Four) (i : ℕ) → i < 4 → at left i ≡ 0 → None ≡ next_for (last_for es left) i
+pub next_none : (es : List Entry) (left : Four) (i : ℕ) → i < 4 → at left i ≡ 0 → None ≡ next_for (last_for es left) i
 next_none es left i h z = sym (ap first (last_at es left i h ∙ last_none es (at left i) z))
 
-pub next_some : (es : List Sent) (left : Four) (i : ℕ) (d : Sent) → i < 4 → 0 < at left i → at left i ≤ length es → Some (get_or es (length es - at left i) d) ≡ next_for (last_for es left) i
+pub next_some : (es : List Entry) (left : Four) (i : ℕ) (d : Entry) → i < 4 → 0 < at left i → at left i ≤ length es → Some (get_or es (length es - at left i) d) ≡ next_for (last_for es left) i
 next_some es left i d h some within = sym (ap first (last_at es left i h) ∙ last_first es (at left i) d some within)
 
 -- after an issue
-pub issue_queues : (own sites : ℕ) (es : List Sent) (e : Sent) (left : Four) → sites ≤ 4 → OthersOnly own sites left → greatest left ≡ length es
+pub issue_queues : (own sites : ℕ) (es : List Entry) (e : Entry) (left : Four) → sites ≤ 4 → OthersOnly own sites left → greatest left ≡ length es
     → last_for (es ++ e ∷ []) (one_more own sites left) ≡ issued own sites (last_for es left) e
 issue_queues own sites es e left few others needed = issue_is own sites es e left (one_more own sites left) few others needed refl refl refl refl
 
@@ -165,7 +165,7 @@ issue_counts own sites left n some others needed = issue_left own sites left (on
 abbrev pub fewer : Four → ℕ → Four
 fewer left taker = with_entry left taker (at left taker - 1)
 
-pub take_queues : (taker : ℕ) (es : List Sent) (left : Four) → taker < 4 → greatest left ≡ length es → last_for es (fewer left taker) ≡ taken_by (last_for es left) taker
+pub take_queues : (taker : ℕ) (es : List Entry) (left : Four) → taker < 4 → greatest left ≡ length es → last_for es (fewer left taker) ≡ taken_by (last_for es left) taker
 take_queues taker es left few needed = take_is taker es left (fewer left taker) few needed (λ i e. rw e (at_same left taker (at left taker - 1) few)) (λ i l ne. at_other left i taker (at left taker - 1) l ne)
 
 -- each count is at most what it was

@@ -6,14 +6,15 @@ use Rattle.stamps.specs.declared.refusal.Refusal.TheVariants.{Unlawful}
 use Rattle.stamps.specs.Clocks.{Allowed, LawfulRule}
 use Rattle.stamps.specs.Rows.{Four, Stamps, at, greatest, with_entry}
 use Rattle.stamps.specs.Stamps.{top_stamp}
-use Rattle.marks.specs.Kinds.{Kind}
-use Rattle.servers.specs.Entries.{Sent, heartbeat, update}
+use Rattle.stamps.specs.Kinds.{Kind}
+use Rattle.servers.specs.declared.entry.Entry.{Entry}
+use Rattle.servers.specs.declared.entry.Entry.TheVariants.{Heartbeat, Update}
 use Rattle.servers.specs.Laws.{Call, In, OfStamps, Life, Rising, RisingLaw, beat, called, hand_over, life, newest, put, raise, report, stamped, take_from, tell, tidy, unstamped}
 use Rattle.servers.specs.Others.{is_other}
 use Rattle.servers.specs.Outboxes.{outbox_full}
 use Rattle.servers.specs.Servers.{Rule, ServerState, heartbeating_at, first_entry, first_received, keeping, last_of, putting_at, receiving, taking_other, telling_checked}
 use Rattle.servers.specs.Tables.{table_full}
-use Rattle.servers.specs.Values.{Worth}
+use Rattle.servers.specs.declared.value.Value.{Value}
 use Rattle.servers.proofs.RowEntries.{at_other, at_same, by_site}
 
 -- what all calls keep, of a server of a site
@@ -79,12 +80,12 @@ module _ (rule : Rule) (lawful : LawfulRule rule) (k : Kind) (site : ℕ) (few :
       cond_both (outbox_full l.server.site l.server.sites l.server.waiting) _ _ (SoundStamped l) (λ _. h)
       (λ _. beat_at l (rule (last_of l.server) l.server.reading 0) (answer_allowed l 0 h (omega arith)) h)
 
-  put_at : (l : Life) (key : ℕ) (value : Worth) (depends knows : Four) (r : Result ℕ Refusal) → Allowed (newest l.made) (greatest depends) r → Sound site l
+  put_at : (l : Life) (key : ℕ) (value : Value) (depends knows : Four) (r : Result ℕ Refusal) → Allowed (newest l.made) (greatest depends) r → Sound site l
       → SoundStamped l (putting_at k l.server key value depends knows r)
   put_at l key value depends knows (Ok stamp) a h = stamp_sound l stamp (putting_at k l.server key value depends knows (Ok stamp)).1 a.0 a.2 refl refl refl h
   put_at l key value depends knows (Err why) a h = h
 
-  put_sound : (l : Life) (key : ℕ) (value : Worth) (depends knows : Four) → Stamps depends → Sound site l → Sound site (called rule k l (put key value depends knows))
+  put_sound : (l : Life) (key : ℕ) (value : Value) (depends knows : Four) → Stamps depends → Sound site l → Sound site (called rule k l (put key value depends knows))
   put_sound l key value depends knows stamps h =
       cond_both (table_full l.server.held) _ _ (SoundStamped l) (λ _. h)
       (λ _. cond_both (outbox_full l.server.site l.server.sites l.server.waiting) _ _ (SoundStamped l) (λ _. h)
@@ -95,13 +96,13 @@ module _ (rule : Rule) (lawful : LawfulRule rule) (k : Kind) (site : ℕ) (few :
   receive_sound l from stamp other h =
       record { here = h.here; reading = h.reading; rise = h.rise; last = at_other l.server.marks.received site from stamp few other ∙ h.last }
 
-  other_sound : (l : Life) (from : ℕ) (e : Sent) → (site ≡ from → ⊥) → Sound site l → SoundAfter l (taking_other l.server from e)
-  other_sound l from (heartbeat stamp) other h = receive_sound l from stamp other h
-  other_sound l from (update v) other h =
+  other_sound : (l : Life) (from : ℕ) (e : Entry) → (site ≡ from → ⊥) → Sound site l → SoundAfter l (taking_other l.server from e)
+  other_sound l from (Heartbeat stamp) other h = receive_sound l from stamp other h
+  other_sound l from (Update v) other h =
       cond_both (table_full l.server.held) _ _ (SoundAfter l) (λ _. h)
       (λ _. receive_sound (unstamped l (keeping l.server v)) from v.stamp other (quiet_sound l (keeping l.server v) refl refl refl h))
 
-  take_sound : (l : Life) (from : ℕ) (e : Sent) → Sound site l → Sound site (called rule k l (take_from from e))
+  take_sound : (l : Life) (from : ℕ) (e : Entry) → Sound site l → Sound site (called rule k l (take_from from e))
   take_sound l from e h =
       cond_both (is_other l.server.site l.server.sites from) _ _ (SoundAfter l)
       (λ other. other_sound l from e (λ is. other_apart l.server.site l.server.sites from other (sym is ∙ sym h.here)) h) (λ _. h)

@@ -1,14 +1,13 @@
 -- The search for the latest version, by its place.
-use Rattle.std.proofs.Common.{◌≡◌, ℕ, ◌+◌, ◌<◌, ◌≤◌, Bool, List, map, length, get_or, drop, Some, None, Option, sym, ap, ◌∙◌}
-use Rattle.std.proofs.lemmas.List.{drop_all, drop_more, get_or-map}
+use Rattle.std.proofs.Common.{◌≡◌, ℕ, ◌+◌, ◌<◌, ◌≤◌, Bool, List, length, get_or, drop, Some, None, Option, sym, ap, ◌∙◌}
+use Rattle.std.proofs.lemmas.List.{drop_all, drop_more, get_or_default}
 use Rattle.stamps.specs.Rows.{same}
-use Rattle.servers.specs.Values.{gone}
-use Rattle.servers.specs.Versions.{VersionState, plain}
+use Rattle.servers.specs.declared.value.Value.TheVariants.{Gone}
 use Rattle.servers.specs.declared.version.Version.{Version}
 use Rattle.servers.specs.Tables.{better, latest, latest_from}
 
 -- what stands at the place that was found so far; d is what a read past the end would give
-abbrev pub standing : VersionState → List VersionState → Option ℕ → Option VersionState
+abbrev pub standing : Version → List Version → Option ℕ → Option Version
 standing d vs None = None
 standing d vs (Some i) = Some (get_or vs i d)
 
@@ -17,7 +16,7 @@ within None n = Unit {0}
 within (Some i) n = i < n
 
 -- one turn: what was found now is the better of what was found before and the version at i
-pub seek_more : (shows : VersionState → Bool) (key : ℕ) (d : VersionState) (vs : List VersionState) (i : ℕ) (was is : Option ℕ)
+pub seek_more : (shows : Version → Bool) (key : ℕ) (d : Version) (vs : List Version) (i : ℕ) (was is : Option ℕ)
     → i < length vs
     → standing d vs is ≡ better shows key (standing d vs was) (get_or vs i d)
     → latest_from shows key (standing d vs was) (drop i vs) ≡ latest shows key vs
@@ -25,15 +24,15 @@ pub seek_more : (shows : VersionState → Bool) (key : ℕ) (d : VersionState) (
 seek_more shows key d vs i was is lt e inv =
     ap (λ f. latest_from shows key f (drop (i + 1) vs)) e ∙ (rw (drop_more vs i d lt) at inv)
 
-abbrev pub nothing : VersionState
-nothing = record { key = 0; value = gone; stamp = 0; source = 0; mark = same 0 }
+abbrev pub nothing : Version
+nothing = record { key = 0; value = Gone; stamp = 0; source = 0; mark = same 0 }
 
 -- after the last turn, what stands at the found place is the latest
-pub seek_all : (shows : VersionState → Bool) (key : ℕ) (d : VersionState) (vs : List VersionState) (i : ℕ) (found : Option ℕ)
+pub seek_all : (shows : Version → Bool) (key : ℕ) (d : Version) (vs : List Version) (i : ℕ) (found : Option ℕ)
     → length vs ≤ i → latest_from shows key (standing d vs found) (drop i vs) ≡ latest shows key vs
     → standing d vs found ≡ latest shows key vs
 seek_all shows key d vs i found le inv = rw (drop_all i vs le) at inv
 
 -- the version at a place is what stands there
-pub stands : (xs : List Version) (i : ℕ) (x : Version) → x ≡ get_or xs i x → i < length xs → Some (plain x) ≡ standing nothing (map plain xs) (Some i)
-stands xs i x is lt = ap (λ v. Some (plain v)) is ∙ ap Some (sym (get_or-map plain xs i x nothing lt))
+pub stands : (xs : List Version) (i : ℕ) (x : Version) → x ≡ get_or xs i x → i < length xs → Some x ≡ standing nothing xs (Some i)
+stands xs i x is lt = ap Some (is ∙ get_or_default xs i x nothing lt)

@@ -1,9 +1,10 @@
 -- Tidying keeps what has to stay, and drops only what a version that stays stands in for.
 use Rattle.std.proofs.Common.{◌≡◌, Bool, true, false, cond, not, ◌&&◌, eqb, ◌⊎◌, List, [], ◌∷◌, Some, None, Option, sym, refl, ap, ◌∙◌, subst, inl, inr, ⊎_elim, arith, filter}
 use Rattle.std.proofs.lemmas.Bool.{and_from, and_parts, cases_Bool, eq-eqb, eqb-true, false≢true, or_cases, or_left, or_right}
-use Rattle.marks.specs.Kinds.{Kind}
+use Rattle.stamps.specs.Kinds.{Kind}
 use Rattle.stamps.specs.Rows.{Four}
-use Rattle.servers.specs.Versions.{VersionState, later}
+use Rattle.servers.specs.Versions.{later}
+use Rattle.servers.specs.declared.version.Version.{Version}
 use Rattle.servers.specs.Tables.{covered, latest, outdated, outdated_by, tidied, tidying}
 use Rattle.servers.specs.Laws.{AsLate, In, IsLatest, IsTidied, Later}
 use Rattle.servers.proofs.Keeping.{kept_length}
@@ -35,29 +36,29 @@ kept_stays p (y ∷ ys) x i e = go (p y) refl (λ j. kept_stays p ys x j e) i
 
 module _ (k : Kind) (safe : Four) where
   -- the version that makes another outdated
-  abbrev Replaces : VersionState → VersionState → Type 0
+  abbrev Replaces : Version → Version → Type 0
   Replaces w v = (w.key ≡ v.key) × (covered k safe w ≡ true) × Later w v
 
-  by_gives : (v w : VersionState) → outdated_by k safe v w ≡ true → Replaces w v
+  by_gives : (v w : Version) → outdated_by k safe v w ≡ true → Replaces w v
   by_gives v w e =
       let a = and_parts (eqb w.key v.key) (later w v && covered k safe w) e in
       let b = and_parts (later w v) (covered k safe w) a.1 in
       (eqb-true w.key v.key a.0, b.1, later_gives w v b.0)
 
-  by_from : (v w : VersionState) → Replaces w v → outdated_by k safe v w ≡ true
+  by_from : (v w : Version) → Replaces w v → outdated_by k safe v w ≡ true
   by_from v w r = and_from (eqb w.key v.key) (later w v && covered k safe w) (eq-eqb w.key v.key r.0) (and_from (later w v) (covered k safe w) (later_from w v r.2) r.1)
 
-  outdated_gives : (vs : List VersionState) (v : VersionState) → outdated k safe vs v ≡ true → (w : VersionState) × In w vs × Replaces w v
+  outdated_gives : (vs : List Version) (v : Version) → outdated k safe vs v ≡ true → (w : Version) × In w vs × Replaces w v
   outdated_gives [] v e = absurd (false≢true e)
   outdated_gives (w ∷ ws) v e =
       ⊎_elim (λ h. (w, inl refl, by_gives v w h)) (λ h. let r = outdated_gives ws v h in (r.0, inr r.1, r.2)) (or_cases (outdated_by k safe v w) (outdated k safe ws v) e)
 
-  outdated_from : (vs : List VersionState) (v w : VersionState) → In w vs → Replaces w v → outdated k safe vs v ≡ true
+  outdated_from : (vs : List Version) (v w : Version) → In w vs → Replaces w v → outdated k safe vs v ≡ true
   outdated_from [] v w i r = absurd i
   outdated_from (u ∷ us) v w i r =
       ⊎_elim (λ e. or_left (outdated_by k safe v u) (outdated k safe us v) (by_from v u (subst (λ x. Replaces x v) e r))) (λ j. or_right (outdated_by k safe v u) (outdated k safe us v) (outdated_from us v w j r)) i
 
-  stay : (vs : List VersionState) (v : VersionState) → In v vs → ((w : VersionState) → In w vs → w.key ≡ v.key → covered k safe w ≡ true → AsLate v w) → In v (tidied k safe vs)
+  stay : (vs : List Version) (v : Version) → In v vs → ((w : Version) → In w vs → w.key ≡ v.key → covered k safe w ≡ true → AsLate v w) → In v (tidied k safe vs)
   stay vs v i late = kept_stays (λ u. not (outdated k safe vs u)) vs v i (go (outdated k safe vs v) refl)
     where
       go : (b : Bool) → outdated k safe vs v ≡ b → not b ≡ true
@@ -67,14 +68,14 @@ module _ (k : Kind) (safe : Four) where
       go false e = refl
 
   -- the latest covered version of the key stays
-  replaced : (vs : List VersionState) (v w : VersionState) → In w vs → Replaces w v → (r : Option VersionState) → IsLatest (covered k safe) v.key vs r
-      → (m : VersionState) × In m (tidied k safe vs) × Replaces m v
+  replaced : (vs : List Version) (v w : Version) → In w vs → Replaces w v → (r : Option Version) → IsLatest (covered k safe) v.key vs r
+      → (m : Version) × In m (tidied k safe vs) × Replaces m v
   replaced vs v w i rep None l = absurd (l w i (rep.0, rep.1))
   replaced vs v w i rep (Some m) l =
       let last = l.2 w i (rep.0, rep.1) in
       (m, stay vs m l.0 (λ u j key cov. l.2 u j (key ∙ l.1.0, cov)), (l.1.0, l.1.1, as_late_later m w v last rep.2))
 
-  pub tidied_law : (vs : List VersionState) → IsTidied k safe vs (tidied k safe vs) (tidying k safe vs).0
+  pub tidied_law : (vs : List Version) → IsTidied k safe vs (tidied k safe vs) (tidying k safe vs).0
   tidied_law vs =
       record {
         held = λ v i. kept_held (λ u. not (outdated k safe vs u)) vs v i;

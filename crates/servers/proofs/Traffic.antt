@@ -2,18 +2,18 @@
 use Rattle.std.proofs.Common.{◌≡◌, ℕ, suc, ◌<◌, ◌≤◌, Bool, true, false, cond, ◌&&◌, ◌||◌, eqb, leb, List, [], ◌∷◌, ◌++◌, length, drop, sym, refl, ap, ◌∙◌, arith}
 use Rattle.std.proofs.lemmas.List.{append_assoc, append-nil, length-append, length-drop}
 use Rattle.std.proofs.lemmas.Bool.{and_parts, cond_both, cond-false, cond-true, leb-false, ltb-true, or_parts}
-use Rattle.servers.specs.Entries.{Sent}
+use Rattle.servers.specs.declared.entry.Entry.{Entry}
 use Rattle.servers.specs.Laws.{IsQueue, QueueLaw, Traffic, issue, listed, moved, take, traffic}
 use Rattle.servers.specs.Others.{is_other}
 use Rattle.servers.proofs.RowEntries.{by_site}
 use Rattle.servers.specs.Outboxes.{Queues, first, has16, issued, outbox_full}
 
 -- a queue taken apart
-first_rest : (q : List Sent) → listed (first q) ++ drop 1 q ≡ q
+first_rest : (q : List Entry) → listed (first q) ++ drop 1 q ≡ q
 first_rest [] = refl
 first_rest (e ∷ es) = refl
 
-taken_whole : (t q : List Sent) → (t ++ listed (first q)) ++ drop 1 q ≡ t ++ q
+taken_whole : (t q : List Entry) → (t ++ listed (first q)) ++ drop 1 q ≡ t ++ q
 taken_whole t q = append_assoc t (listed (first q)) (drop 1 q) ∙ ap (λ s. t ++ s) (first_rest q)
 
 -- what waits is nothing exactly when all that was issued is taken
@@ -21,7 +21,7 @@ no_length : {A : Type 0} (q : List A) → length q ≡ 0 → q ≡ []
 no_length [] e = refl
 no_length (x ∷ xs) e = absurd (omega arith)
 
-taken_all : (t q s : List Sent) → t ++ q ≡ s → (q ≡ [] → t ≡ s) × (t ≡ s → q ≡ [])
+taken_all : (t q s : List Entry) → t ++ q ≡ s → (q ≡ [] → t ≡ s) × (t ≡ s → q ≡ [])
 taken_all t q s e =
     (λ none. sym (append-nil t) ∙ ap (λ r. t ++ r) (sym none) ∙ e, λ all. let l = ap length e in let m = ap length all in let n = length-append t q in no_length q (omega arith))
 
@@ -43,7 +43,7 @@ room own sites w site few free =
     (has_room own sites w 0 a.0) (has_room own sites w 1 b.0) (has_room own sites w 2 c.0) (has_room own sites w 3 c.1)
     (λ n other. let l = ltb-true (suc (suc (suc (suc n)))) sites (and_parts _ _ other).0 in absurd (omega arith)) site
 
-issue_keeps : (own sites : ℕ) (t : Traffic) (e : Sent) → sites ≤ 4 → outbox_full own sites t.queues ≡ false → IsQueue own sites t
+issue_keeps : (own sites : ℕ) (t : Traffic) (e : Entry) → sites ≤ 4 → outbox_full own sites t.queues ≡ false → IsQueue own sites t
     → IsQueue own sites (record { queues = issued own sites t.queues e; sent = t.sent ++ e ∷ []; taken = t.taken })
 issue_keeps own sites t e few free h =
     is_queue own sites (record { queues = issued own sites t.queues e; sent = t.sent ++ e ∷ []; taken = t.taken })
@@ -55,15 +55,15 @@ issue_keeps own sites t e few free h =
     more site other = cond-true (is_other own sites site) (t.queues site ++ e ∷ []) (t.queues site) other
 
 -- what a take leaves for a site, by whether it is the taker
-take_whole : (b : Bool) (t q s : List Sent) → t ++ q ≡ s → cond b (t ++ listed (first q)) t ++ cond b (drop 1 q) q ≡ s
+take_whole : (b : Bool) (t q s : List Entry) → t ++ q ≡ s → cond b (t ++ listed (first q)) t ++ cond b (drop 1 q) q ≡ s
 take_whole true t q s e = taken_whole t q ∙ e
 take_whole false t q s e = e
 
-take_short : (b : Bool) (q : List Sent) → length q ≤ 16 → length (cond b (drop 1 q) q) ≤ 16
+take_short : (b : Bool) (q : List Entry) → length q ≤ 16 → length (cond b (drop 1 q) q) ≤ 16
 take_short true q h = let l = length-drop 1 q in omega arith
 take_short false q h = h
 
-take_empty : (b : Bool) (q : List Sent) → q ≡ [] → cond b (drop 1 q) q ≡ []
+take_empty : (b : Bool) (q : List Entry) → q ≡ [] → cond b (drop 1 q) q ≡ []
 take_empty true q e = ap (drop 1) e
 take_empty false q e = e
 

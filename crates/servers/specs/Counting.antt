@@ -1,11 +1,7 @@
 -- A count for each site number, in plain numbers.
 use Rattle.std.specs.Prelude.{ℕ, ◌+◌, cond}
-use Rattle.stamps.specs.Rows.{Four, four}
+use Rattle.stamps.specs.Rows.{Four}
 use Rattle.servers.specs.Others.{is_other}
-use Rattle.servers.specs.declared.counts.Counts.{Counts}
-
-abbrev pub counts : Counts → Four
-counts c = four c.numbers
 
 -- 1 for another site of the layout, and 0 for the rest
 abbrev pub one_if : ℕ → ℕ → ℕ → ℕ

@@ -1,15 +1,15 @@
 -- Laws of one server, in the words of the subject.
 use Rattle.std.specs.Prelude.{◌≡◌, ℕ, ◌+◌, ◌^◌, ◌<◌, ◌≤◌, Bool, true, false, cond, ◌⊎◌, List, [], ◌∷◌, ◌++◌, length, Some, None, Ok, Err, Option, Result, ◌==◌}
 use Rattle.stamps.specs.declared.refusal.Refusal.{Refusal}
-use Rattle.marks.specs.Kinds.{Kind}
+use Rattle.stamps.specs.Kinds.{Kind}
 use Rattle.stamps.specs.Rows.{Four, Stamps}
-use Rattle.servers.specs.Entries.{Sent}
+use Rattle.servers.specs.declared.entry.Entry.{Entry}
 use Rattle.servers.specs.Others.{is_other}
 use Rattle.servers.specs.Outboxes.{Queues, first, issued, none_waiting, outbox_full, taken_by}
 use Rattle.servers.specs.Servers.{Rule, ServerState, heartbeating, fresh, handing, last_of, putting, raised, reporting, taking, tidied_up, telling}
 use Rattle.servers.specs.Tables.{covered}
-use Rattle.servers.specs.Values.{Worth}
-use Rattle.servers.specs.Versions.{VersionState}
+use Rattle.servers.specs.declared.value.Value.{Value}
+use Rattle.servers.specs.declared.version.Version.{Version}
 
 -- x stands in a list
 abbrev pub In : {A : Type 0} → A → List A → Type 0
@@ -17,32 +17,32 @@ In x [] = ⊥
 In x (y ∷ ys) = (x ≡ y) ⊎ In x ys
 
 -- v is at least as late as w: w is not later
-abbrev pub AsLate : VersionState → VersionState → Type 0
+abbrev pub AsLate : Version → Version → Type 0
 AsLate v w = (w.stamp ≤ v.stamp) × (w.stamp ≡ v.stamp → w.source ≤ v.source)
 
 -- v is later than w
-abbrev pub Later : VersionState → VersionState → Type 0
+abbrev pub Later : Version → Version → Type 0
 Later v w = (w.stamp ≤ v.stamp) × (w.stamp ≡ v.stamp → w.source < v.source)
 
 -- a version of the key that is shown
-abbrev pub Passes : (VersionState → Bool) → ℕ → VersionState → Type 0
+abbrev pub Passes : (Version → Bool) → ℕ → Version → Type 0
 Passes shows key v = (v.key ≡ key) × (shows v ≡ true)
 
 -- The latest under a test is held and passes, and nothing held that passes is later; there is none exactly when nothing
 -- held passes.
-abbrev pub IsLatest : (VersionState → Bool) → ℕ → List VersionState → Option VersionState → Type 0
-IsLatest shows key vs None = (v : VersionState) → In v vs → Passes shows key v → ⊥
-IsLatest shows key vs (Some b) = In b vs × Passes shows key b × ((v : VersionState) → In v vs → Passes shows key v → AsLate b v)
+abbrev pub IsLatest : (Version → Bool) → ℕ → List Version → Option Version → Type 0
+IsLatest shows key vs None = (v : Version) → In v vs → Passes shows key v → ⊥
+IsLatest shows key vs (Some b) = In b vs × Passes shows key b × ((v : Version) → In v vs → Passes shows key v → AsLate b v)
 
 -- Tidying under a safe mark.
-pub record IsTidied (k : Kind) (safe : Four) (before after : List VersionState) (count : ℕ) : Type 0 where
+pub record IsTidied (k : Kind) (safe : Four) (before after : List Version) (count : ℕ) : Type 0 where
   -- nothing comes in
-  pub held : (v : VersionState) → In v after → In v before
+  pub held : (v : Version) → In v after → In v before
   -- what is older than a version of its key that the safe mark covers is dropped
-  pub gone : (v w : VersionState) → In w before → w.key ≡ v.key → covered k safe w ≡ true → Later w v → In v after → ⊥
+  pub gone : (v w : Version) → In w before → w.key ≡ v.key → covered k safe w ≡ true → Later w v → In v after → ⊥
   -- what is dropped is older than such a version that stays; so the latest of these stays, and all that is not older
-  pub drops : (v : VersionState) → In v before
-      → In v after ⊎ ((w : VersionState) × In w after × (w.key ≡ v.key) × (covered k safe w ≡ true) × Later w v)
+  pub drops : (v : Version) → In v before
+      → In v after ⊎ ((w : Version) × In w after × (w.key ≡ v.key) × (covered k safe w ≡ true) × Later w v)
   pub counts : length after + count ≡ length before
 
 -- A stamp that a server answers is above its last one.
@@ -52,14 +52,14 @@ Above last (Err why) = Unit {0}
 
 -- What is done with an outbox: an entry is issued, or a site takes its next one.
 pub data Move : Type 0 where
-  issue : Sent → Move
+  issue : Entry → Move
   take : ℕ → Move
 
 -- what was issued since the outbox was made, and what each site has taken
 pub record Traffic : Type 0 where
   pub queues : Queues
-  pub sent : List Sent
-  pub taken : ℕ → List Sent
+  pub sent : List Entry
+  pub taken : ℕ → List Entry
 
 abbrev pub listed : {A : Type 0} → Option A → List A
 listed None = []
@@ -96,9 +96,9 @@ pub data Call : Type 0 where
   tell : ℕ → Call
   beat : Call
   -- the key, the value, and the rows of what the session depends on and of what it knows
-  put : ℕ → Worth → Four → Four → Call
+  put : ℕ → Value → Four → Four → Call
   -- the site that the entry comes from
-  take_from : ℕ → Sent → Call
+  take_from : ℕ → Entry → Call
   -- the site that has taken its next entry
   hand_over : ℕ → Call
   report : Call

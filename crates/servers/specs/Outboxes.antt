@@ -1,22 +1,21 @@
 -- Outboxes: what each other site has still to take, in order of issue.
-use Rattle.std.specs.Prelude.{ℕ, ◌-◌, Bool, cond, ◌&&◌, ◌||◌, List, [], ◌∷◌, ◌++◌, map, length, drop, Some, None, Option, ◌==◌, nat_le, nat_lt}
+use Rattle.std.specs.Prelude.{ℕ, ◌-◌, Bool, cond, ◌&&◌, ◌||◌, List, [], ◌∷◌, ◌++◌, length, drop, Some, None, Option, ◌==◌, nat_le, nat_lt}
 use Rattle.fixed_vec.specs.Items.{items}
 use Rattle.stamps.specs.Rows.{Four, at}
-use Rattle.servers.specs.Counting.{counts}
-use Rattle.servers.specs.Entries.{Sent, sent}
+use Rattle.servers.specs.declared.entry.Entry.{Entry}
 use Rattle.servers.specs.Others.{is_other}
 use Rattle.servers.specs.declared.outbox.Outbox.{Outbox}
 
 -- by site
 abbrev pub Queues : Type 0
-Queues = ℕ → List Sent
+Queues = ℕ → List Entry
 
 -- the last entries: as many as the site has still to take
-abbrev pub last_for : List Sent → Four → Queues
+abbrev pub last_for : List Entry → Four → Queues
 last_for entries left site = cond (nat_lt site 4) (drop (length entries - at left site) entries) []
 
 abbrev pub waiting : Outbox → Queues
-waiting o = last_for (map sent (items o.entries)) (counts o.left)
+waiting o = last_for (items o.entries) o.left
 
 abbrev pub none_waiting : Queues
 none_waiting site = []
@@ -29,11 +28,11 @@ abbrev pub outbox_full : ℕ → ℕ → Queues → Bool
 outbox_full own sites w = has16 own sites w 0 || (has16 own sites w 1 || (has16 own sites w 2 || has16 own sites w 3))
 
 -- one entry more for every other site
-abbrev pub issued : ℕ → ℕ → Queues → Sent → Queues
+abbrev pub issued : ℕ → ℕ → Queues → Entry → Queues
 issued own sites w e site = cond (is_other own sites site) (w site ++ e ∷ []) (w site)
 
 -- the same, if no other site has 16 to take
-abbrev pub issued_if_room : ℕ → ℕ → Queues → Sent → Queues
+abbrev pub issued_if_room : ℕ → ℕ → Queues → Entry → Queues
 issued_if_room own sites w e = cond (outbox_full own sites w) w (issued own sites w e)
 
 abbrev pub first : {A : Type 0} → List A → Option A
@@ -41,7 +40,7 @@ first [] = None
 first (x ∷ xs) = Some x
 
 -- the next entry for a site, and what is left when it is taken
-abbrev pub next_for : Queues → ℕ → Option Sent
+abbrev pub next_for : Queues → ℕ → Option Entry
 next_for w site = first (w site)
 
 abbrev pub taken_by : Queues → ℕ → Queues

@@ -2,11 +2,6 @@
 use Rattle.std.specs.Prelude.{ℕ, cond, Ok, Err, Result, nat_le}
 use Rattle.stamps.specs.declared.refusal.Refusal.{Refusal}
 use Rattle.stamps.specs.declared.refusal.Refusal.TheVariants.{Unlawful}
-use Rattle.servers.specs.declared.percent.Percent.{Percent}
-
-abbrev pub percent_number : Result Percent Refusal → Result ℕ Refusal
-percent_number (Ok percent) = Ok percent.hundredths
-percent_number (Err why) = Err why
 
 -- 0 to 10,000 hundredths
 abbrev pub checked_percent : ℕ → Result ℕ Refusal

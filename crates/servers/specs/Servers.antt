@@ -3,16 +3,18 @@ use Rattle.std.specs.Prelude.{ℕ, Bool, cond, List, [], ◌∷◌, ◌++◌, �
 use Rattle.stamps.specs.declared.refusal.Refusal.{Refusal}
 use Rattle.stamps.specs.declared.refusal.Refusal.TheVariants.{NotInLayout, ReadingBehind, TableFull, OutboxFull}
 use Rattle.stamps.specs.Checks.{checked_reading}
-use Rattle.marks.specs.Kinds.{Kind}
-use Rattle.stamps.specs.Rows.{Four, at, four, greatest, join, same, with_entry}
+use Rattle.stamps.specs.Kinds.{Kind}
+use Rattle.stamps.specs.Rows.{Four, at, greatest, join, same, with_entry}
 use Rattle.stamps.specs.Stamps.{top_stamp, time_of}
-use Rattle.servers.specs.Entries.{Sent, update, heartbeat, stamp_of}
+use Rattle.servers.specs.Entries.{stamp_of}
+use Rattle.servers.specs.declared.entry.Entry.{Entry}
+use Rattle.servers.specs.declared.entry.Entry.TheVariants.{Heartbeat, Update}
 use Rattle.servers.specs.Held.{held}
 use Rattle.servers.specs.Others.{is_other}
 use Rattle.servers.specs.Outboxes.{Queues, issued, none_waiting, outbox_full, taken_by, waiting}
 use Rattle.servers.specs.Tables.{covered, latest, table_full, tidying, visible}
-use Rattle.servers.specs.Values.{Worth}
-use Rattle.servers.specs.Versions.{VersionState}
+use Rattle.servers.specs.declared.value.Value.{Value}
+use Rattle.servers.specs.declared.version.Version.{Version}
 use Rattle.servers.specs.declared.server.Server.{Server}
 
 -- what a clock rule answers to a last stamp, a reading and a dependency stamp
@@ -33,17 +35,17 @@ pub record ServerState : Type 0 where
   pub reading : ℕ
   pub marks : MarksState
   -- the versions, in order of arrival
-  pub held : List VersionState
+  pub held : List Version
   -- the outbox: what each other site has still to take
   pub waiting : Queues
 
 abbrev pub view : {C K Mark : Type 0} → Server C K Mark → ServerState
 view s =
     record {
-      site = s.outbox.peers.own.number;
-      sites = s.outbox.peers.sites.number;
-      reading = s.reading.time;
-      marks = record { received = four s.received.entries; reported = four s.reported.entries; stable = four s.stable.entries };
+      site = s.outbox.peers.own;
+      sites = s.outbox.peers.sites;
+      reading = s.reading;
+      marks = record { received = s.received; reported = s.reported; stable = s.stable };
       held = held s.table;
       waiting = waiting s.outbox;
     }
@@ -89,14 +91,14 @@ abbrev pub telling : ServerState → ℕ → Result (Unit {0}) Refusal × Server
 telling s time = telling_checked s (checked_reading time)
 
 -- an entry is issued: its stamp is the last one, and every other site has it to take
-abbrev pub issuing : ServerState → Sent → ServerState
+abbrev pub issuing : ServerState → Entry → ServerState
 issuing s e =
     record s { marks = with_received s.marks s.site (stamp_of e); waiting = issued s.site s.sites s.waiting e }
 
 -- heartbeat: a full outbox is refused before the rule is asked
 abbrev pub heartbeating_at : ServerState → Result ℕ Refusal → Result ℕ Refusal × ServerState
 heartbeating_at s (Err why) = (Err why, s)
-heartbeating_at s (Ok stamp) = (Ok stamp, issuing s (heartbeat stamp))
+heartbeating_at s (Ok stamp) = (Ok stamp, issuing s (Heartbeat stamp))
 
 abbrev pub heartbeating : Rule → ServerState → Result ℕ Refusal × ServerState
 heartbeating rule s = cond (outbox_full s.site s.sites s.waiting) (Err OutboxFull, s) (heartbeating_at s (rule (last_of s) s.reading 0))
@@ -114,23 +116,23 @@ abbrev pub reporting : Kind → ServerState → ServerState
 reporting k s = with_marks s (record s.marks { reported = k.floor s.marks.received })
 
 -- put: the version that is made
-abbrev pub put_version : ServerState → ℕ → Worth → Four → ℕ → VersionState
+abbrev pub put_version : ServerState → ℕ → Value → Four → ℕ → Version
 put_version s key value depends stamp = record { key = key; value = value; stamp = stamp; source = s.site; mark = depends }
 
 -- the version is kept, at the end
-abbrev pub keeping : ServerState → VersionState → ServerState
+abbrev pub keeping : ServerState → Version → ServerState
 keeping s v = record s { held = s.held ++ v ∷ [] }
 
 -- with a stamp, the version is kept and issued, and the stable mark is raised by what the session knows
-abbrev pub putting_at : Kind → ServerState → ℕ → Worth → Four → Four → Result ℕ Refusal → Result ℕ Refusal × ServerState
+abbrev pub putting_at : Kind → ServerState → ℕ → Value → Four → Four → Result ℕ Refusal → Result ℕ Refusal × ServerState
 putting_at k s key value depends knows (Err why) = (Err why, s)
 putting_at k s key value depends knows (Ok stamp) =
     let v = put_version s key value depends stamp in
-    (Ok stamp, raised k (issuing (keeping s v) (update v)) knows)
+    (Ok stamp, raised k (issuing (keeping s v) (Update v)) knows)
 
 -- a full table is refused before a full outbox, and that before the rule is asked; the dependency is the greatest
 -- entry of what the session depends on
-abbrev pub putting : Rule → Kind → ServerState → ℕ → Worth → Four → Four → Result ℕ Refusal × ServerState
+abbrev pub putting : Rule → Kind → ServerState → ℕ → Value → Four → Four → Result ℕ Refusal × ServerState
 putting rule k s key value depends knows =
     cond (table_full s.held) (Err TableFull, s)
     (cond (outbox_full s.site s.sites s.waiting) (Err OutboxFull, s)
@@ -141,12 +143,12 @@ abbrev pub receiving : ServerState → ℕ → ℕ → ServerState
 receiving s from stamp = with_marks s (with_received s.marks from stamp)
 
 -- an entry of another site of the layout is taken: a full table refuses an update
-abbrev pub taking_other : ServerState → ℕ → Sent → Result (Unit {0}) Refusal × ServerState
-taking_other s from (heartbeat stamp) = (Ok tt, receiving s from stamp)
-taking_other s from (update v) = cond (table_full s.held) (Err TableFull, s) (Ok tt, receiving (keeping s v) from v.stamp)
+abbrev pub taking_other : ServerState → ℕ → Entry → Result (Unit {0}) Refusal × ServerState
+taking_other s from (Heartbeat stamp) = (Ok tt, receiving s from stamp)
+taking_other s from (Update v) = cond (table_full s.held) (Err TableFull, s) (Ok tt, receiving (keeping s v) from v.stamp)
 
 -- take: an entry of any other origin is refused before anything else
-abbrev pub taking : ServerState → ℕ → Sent → Result (Unit {0}) Refusal × ServerState
+abbrev pub taking : ServerState → ℕ → Entry → Result (Unit {0}) Refusal × ServerState
 taking s from e = cond (is_other s.site s.sites from) (taking_other s from e) (Err NotInLayout, s)
 
 -- a site has taken its next entry
@@ -154,15 +156,15 @@ abbrev pub handing : ServerState → ℕ → ServerState
 handing s site = record s { waiting = taken_by s.waiting site }
 
 -- whether a version is visible at the server
-abbrev pub sees : Kind → ServerState → VersionState → Bool
+abbrev pub sees : Kind → ServerState → Version → Bool
 sees k s = visible k s.site (k.floor s.marks.stable)
 
 -- the latest version of a key that is visible
-abbrev pub latest_visible : Kind → ServerState → ℕ → Option VersionState
+abbrev pub latest_visible : Kind → ServerState → ℕ → Option Version
 latest_visible k s key = latest (sees k s) key s.held
 
 -- the latest version of a key that a cut covers
-abbrev pub latest_covered : Kind → ServerState → ℕ → Four → Option VersionState
+abbrev pub latest_covered : Kind → ServerState → ℕ → Four → Option Version
 latest_covered k s key cut = latest (covered k cut) key s.held
 
 -- tidying under a safe mark: how many versions are dropped

@@ -2,11 +2,6 @@
 use Rattle.std.specs.Prelude.{ℕ, cond, ◌&&◌, Ok, Err, Result, nat_le}
 use Rattle.stamps.specs.declared.refusal.Refusal.{Refusal}
 use Rattle.stamps.specs.declared.refusal.Refusal.TheVariants.{BadLayout}
-use Rattle.servers.specs.declared.site_count.SiteCount.{SiteCount}
-
-abbrev pub count_of : Result SiteCount Refusal → Result ℕ Refusal
-count_of (Ok count) = Ok count.number
-count_of (Err why) = Err why
 
 abbrev pub checked_count : ℕ → Result ℕ Refusal
 checked_count n = cond (nat_le 2 n && nat_le n 4) (Ok n) (Err BadLayout)

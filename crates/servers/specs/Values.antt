@@ -7,50 +7,27 @@ use Rattle.servers.specs.declared.value.Value.TheVariants.{Gone, Price, Percent,
 use Rattle.servers.specs.declared.value.Basis.{Basis}
 use Rattle.servers.specs.declared.value.Basis.TheVariants.{Part, Sheet}
 
--- a value, by its numbers
-pub data Worth : Type 0 where
-  gone : Worth
-  -- in cents
-  price : ℕ → Worth
-  -- in hundredths
-  percent : ℕ → Worth
-  -- of the finished part, or of the whole sheet
-  part : Worth
-  sheet : Worth
+abbrev pub kind_of : Value → ℕ
+kind_of Gone = 0
+kind_of (Price cents) = 1
+kind_of (Percent hundredths) = 2
+kind_of (BasisOf basis) = 3
 
-abbrev pub basis_worth : Basis → Worth
-basis_worth Part = part
-basis_worth Sheet = sheet
+abbrev pub amount_of_basis : Basis → ℕ
+amount_of_basis Part = 0
+amount_of_basis Sheet = 1
 
-abbrev pub worth : Value → Worth
-worth Gone = gone
-worth (Price cents) = price cents
-worth (Percent p) = percent p.hundredths
-worth (BasisOf b) = basis_worth b
-
-abbrev pub kind_of : Worth → ℕ
-kind_of gone = 0
-kind_of (price cents) = 1
-kind_of (percent hundredths) = 2
-kind_of part = 3
-kind_of sheet = 3
-
-abbrev pub amount_of : Worth → ℕ
-amount_of gone = 0
-amount_of (price cents) = cents
-amount_of (percent hundredths) = hundredths
-amount_of part = 0
-amount_of sheet = 1
+abbrev pub amount_of : Value → ℕ
+amount_of Gone = 0
+amount_of (Price cents) = cents
+amount_of (Percent hundredths) = hundredths
+amount_of (BasisOf basis) = amount_of_basis basis
 
 -- the value of a kind and an amount
-abbrev pub worth_from : ℕ → ℕ → Result Worth Refusal
-worth_from kind amount =
-    cond (kind == 0 && amount == 0) (Ok gone)
-    (cond (kind == 1 && nat_lt amount (2 ^ 32)) (Ok (price amount))
-    (cond (kind == 2 && nat_le amount 10000) (Ok (percent amount))
-    (cond (kind == 3 && amount == 0) (Ok part)
-    (cond (kind == 3 && amount == 1) (Ok sheet) (Err Unlawful)))))
-
-abbrev pub worth_of : Result Value Refusal → Result Worth Refusal
-worth_of (Ok v) = Ok (worth v)
-worth_of (Err why) = Err why
+abbrev pub value_from : ℕ → ℕ → Result Value Refusal
+value_from kind amount =
+    cond (kind == 0 && amount == 0) (Ok Gone)
+    (cond (kind == 1 && nat_lt amount (2 ^ 32)) (Ok (Price amount))
+    (cond (kind == 2 && nat_le amount 10000) (Ok (Percent amount))
+    (cond (kind == 3 && amount == 0) (Ok (BasisOf Part))
+    (cond (kind == 3 && amount == 1) (Ok (BasisOf Sheet)) (Err Unlawful)))))

@@ -1,6 +1,6 @@
 // What a server sends to the other sites.
 ghost use Rattle.std.specs.Prelude.{◌≡◌};
-ghost use Rattle.servers.specs.Entries.{sent, stamp_of};
+ghost use Rattle.servers.specs.Entries.{stamp_of};
 
 use crate::version::Version;
 use stamps::stamp::Stamp;
@@ -14,12 +14,12 @@ pub enum Entry {
 }
 
 impl Entry {
-    pub(crate) fn stamp(self) -> Stamp
-        ensures { result.value ≡ stamp_of (sent self) }
+    pub(crate) fn stamp(&self) -> Stamp
+        ensures { result ≡ stamp_of self.now }
     {
         match self {
             Entry::Update(version) => version.stamp,
-            Entry::Heartbeat(stamp) => stamp,
+            Entry::Heartbeat(stamp) => *stamp,
         }
     }
 }

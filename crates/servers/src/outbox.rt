@@ -1,8 +1,7 @@
 // The entries that other sites have still to take, in order of issue.
-ghost use Rattle.std.specs.Prelude.{◌≡◌, length};
+ghost use Rattle.std.specs.Prelude.{◌≡◌, ◌≤◌, length};
 ghost use Rattle.fixed_vec.specs.Items.{items};
 ghost use Rattle.stamps.specs.Rows.{greatest};
-ghost use Rattle.servers.specs.Counting.{counts};
 ghost use Rattle.servers.specs.Lefts.{OthersOnly};
 
 use crate::counts::Counts;
@@ -20,8 +19,9 @@ pub(crate) struct Outbox {
     peers: Peers,
     entries: FixedVec<Entry, MOST_ENTRIES>,
     left: Counts,
-    ghost others: { OthersOnly peers.own.number peers.sites.number (counts left) },
-    ghost needed: { greatest (counts left) ≡ length (items entries) },
+    ghost sites: { (2 ≤ peers.sites) × (peers.sites ≤ 4) },
+    ghost others: { OthersOnly peers.own peers.sites left },
+    ghost needed: { greatest left ≡ length (items entries) },
 }
 
 mod methods;

@@ -13,8 +13,8 @@ pub(crate) struct Peers {
 
 impl Peers {
     // Whether a number is that of another site of the layout.
-    pub(crate) fn has_other(self, site: u8) -> bool
-        ensures { result ≡ is_other self.own.number self.sites.number site }
+    pub(crate) fn has_other(&self, site: u8) -> bool
+        ensures { result ≡ is_other self.now.own self.now.sites site }
     {
         site < self.sites.number() && site != self.own.number()
     }

@@ -1,8 +1,8 @@
 // One server: a site's replica of one partition.
 use crate::outbox::Outbox;
 use crate::table::VersionTable;
-use marks::mark_kind::MarkKind;
 use stamps::clock_rule::ClockRule;
+use stamps::mark_kind::MarkKind;
 use stamps::reading::Reading;
 use stamps::row::Row;
 use std::marker::PhantomData;

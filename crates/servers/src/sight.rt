@@ -1,19 +1,19 @@
 // Which versions are shown.
 ghost use Rattle.std.specs.Prelude.{◌≡◌, Bool};
-ghost use Rattle.servers.specs.Versions.{VersionState, plain};
+ghost use Rattle.servers.specs.declared.version.Version.{Version};
 ghost use Rattle.servers.specs.Tables.{visible, covered};
 
 use crate::version::Version;
-use marks::mark_kind::MarkKind;
+use stamps::mark_kind::MarkKind;
 use stamps::site::Site;
 
-// A test of versions, by what it means of their plain state. A trait and no closure: tried, and at a call that passes a
+// A test of versions. A trait and no closure: tried, and at a call that passes a
 // closure what it shows cannot be picked for the contract.
 pub(crate) trait Sight {
-    ghost shows: { Self → VersionState → Bool };
+    ghost shows: { Self → Version → Bool };
 
     fn shows(&self, version: &Version) -> bool
-        ensures { result ≡ shows self.now (plain version.now) };
+        ensures { result ≡ shows self.now version.now };
 }
 
 // Local versions, and those whose full mark the stable mark covers.
@@ -24,7 +24,7 @@ pub(crate) struct Visible<K: MarkKind> {
 }
 
 impl<K: MarkKind> Sight for Visible<K> {
-    ghost shows = { λ s. visible K.MarkKind.kind s.site.number (K.MarkKind.meaning s.stable) };
+    ghost shows = { λ s. visible K.MarkKind.kind s.site (K.MarkKind.meaning s.stable) };
 
     fn shows(&self, version: &Version) -> bool {
         version.source == self.site || K::covers(self.stable, version.full_mark::<K>())

@@ -1,6 +1,6 @@
 // What a version says of its key.
 ghost use Rattle.std.specs.Prelude.{◌≡◌};
-ghost use Rattle.servers.specs.Values.{worth, basis_worth, worth_of, worth_from, kind_of, amount_of};
+ghost use Rattle.servers.specs.Values.{value_from, kind_of, amount_of, amount_of_basis};
 
 use crate::percent::Percent;
 use stamps::refusal::Refusal;
@@ -16,7 +16,7 @@ pub enum Basis {
 
 impl Basis {
     pub(crate) fn amount(self) -> u32
-        ensures { result ≡ amount_of (basis_worth self) }
+        ensures { result ≡ amount_of_basis self }
     {
         self as u32
     }
@@ -35,7 +35,7 @@ pub enum Value {
 impl Value {
     // The value of a kind byte and an amount, as a script has them, if there is one.
     pub fn new(kind: u8, amount: u32) -> Result<Value, Refusal>
-        ensures { worth_of result ≡ worth_from kind amount }
+        ensures { result ≡ value_from kind amount }
     {
         match (kind, amount) {
             (0, 0) => Ok(Value::Gone),
@@ -49,7 +49,7 @@ impl Value {
 
     // Its kind byte in a script.
     pub fn kind(self) -> u8
-        ensures { result ≡ kind_of (worth self) }
+        ensures { result ≡ kind_of self }
     {
         match self {
             Value::Gone => 0,
@@ -61,7 +61,7 @@ impl Value {
 
     // Its amount in a script.
     pub fn amount(self) -> u32
-        ensures { result ≡ amount_of (worth self) }
+        ensures { result ≡ amount_of self }
     {
         match self {
             Value::Gone => 0,

@@ -1,10 +1,9 @@
 // One value of a key, as it was put.
 ghost use Rattle.std.specs.Prelude.{◌≡◌};
-ghost use Rattle.servers.specs.Values.{worth};
-ghost use Rattle.servers.specs.Versions.{plain, later, full_mark};
+ghost use Rattle.servers.specs.Versions.{later, full_mark};
 
 use crate::value::Value;
-use marks::mark_kind::MarkKind;
+use stamps::mark_kind::MarkKind;
 use stamps::row::Row;
 use stamps::site::Site;
 use stamps::stamp::Stamp;
@@ -21,33 +20,33 @@ pub struct Version {
 
 impl Version {
     pub fn value(&self) -> Value
-        ensures { worth result ≡ (plain self.now).value }
+        ensures { result ≡ self.now.value }
     {
         self.value
     }
 
     pub fn stamp(&self) -> Stamp
-        ensures { result.value ≡ (plain self.now).stamp }
+        ensures { result ≡ self.now.stamp }
     {
         self.stamp
     }
 
     pub fn source(&self) -> Site
-        ensures { result.number ≡ (plain self.now).source }
+        ensures { result ≡ self.now.source }
     {
         self.source
     }
 
     // Whether this is the later of two versions of a key: by stamp, and at equal stamps by source.
     pub(crate) fn is_later(&self, other: &Version) -> bool
-        ensures { result ≡ later (plain self.now) (plain other.now) }
+        ensures { result ≡ later self.now other.now }
     {
         (self.stamp, self.source) > (other.stamp, other.source)
     }
 
     // The mark of the version and of what its writer depended on: whoever has seen it depends on these.
     pub fn full_mark<K: MarkKind>(&self) -> K::Mark
-        ensures { K.MarkKind.meaning result ≡ full_mark K.MarkKind.kind (plain self.now) }
+        ensures { K.MarkKind.meaning result ≡ full_mark K.MarkKind.kind self.now }
     {
         K::join(K::floor(self.mark), K::lift(self.source, self.stamp))
     }

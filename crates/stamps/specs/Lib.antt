@@ -1,7 +1,12 @@
 pub mod Refusals
 pub mod Stamps
 pub mod Rows
+pub mod RowLists
 pub mod Checks
 pub mod Clocks
-pub mod Outside
 pub mod BuiltRulesLawful
+pub mod Kinds
+pub mod BuiltKinds
+pub mod CommonFloors
+pub mod Outside
+pub mod Edges

@@ -1,8 +1,10 @@
--- What a clock rule answers to plain numbers.
-use Rattle.std.specs.Prelude.{ℕ, ℤ, pos, neg_ℤ, Ok, Err, Result}
+-- What clock rules and kinds of mark answer to plain numbers.
+use Rattle.std.specs.Prelude.{ℕ, ℤ, pos, neg_ℤ, Ok, Err, Result, List}
 use Rattle.stamps.specs.declared.refusal.Refusal.{Refusal}
 use Rattle.stamps.specs.Refusals.{number_of}
-use Rattle.stamps.specs.Checks.{checked_stamp, checked_reading}
+use Rattle.stamps.specs.Checks.{checked_stamp, checked_reading, checked_site, checked_row}
+use Rattle.stamps.specs.Rows.{Four}
+use Rattle.stamps.specs.Kinds.{Kind}
 
 -- the next step with what a check has passed, or its refusal
 abbrev pub and_then : {A B : Type 0} → Result A Refusal → (A → Result B Refusal) → Result B Refusal
@@ -17,3 +19,14 @@ asked_stamp rule last reading dependency =
 abbrev pub signed_number : Result ℕ Refusal → ℤ
 signed_number (Ok stamp) = pos stamp
 signed_number (Err why) = neg_ℤ (pos (number_of why))
+
+abbrev pub asked_floor : Kind → List ℕ → Result Four Refusal
+asked_floor k entries = and_then (checked_row entries) (λ row. Ok (k.floor row))
+
+abbrev pub asked_lift : Kind → ℕ → ℕ → Result Four Refusal
+asked_lift k site stamp = and_then (checked_stamp stamp) (λ s. and_then (checked_site site) (λ i. Ok (k.lift i s)))
+
+-- the row of the mark that was answered, or the refusal
+abbrev pub answered_row : {Mark : Type 0} → (Mark → Four) → Result Mark Refusal → Result Four Refusal
+answered_row meaning (Ok mark) = Ok (meaning mark)
+answered_row meaning (Err why) = Err why

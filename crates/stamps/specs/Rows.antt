@@ -1,5 +1,5 @@
 -- Rows: four stamps, one for each site number.
-use Rattle.std.specs.Prelude.{ℕ, ◌^◌, ◌<◌, ◌≤◌, min, max, Bool, cond, ◌&&◌, List, ◌==◌, nat_le, slice_index}
+use Rattle.std.specs.Prelude.{ℕ, ◌^◌, ◌<◌, ◌≤◌, min, max, Bool, cond, ◌&&◌, List, [], ◌∷◌, ◌==◌, nat_le, slice_index}
 
 pub record Four : Type 0 where
   pub site0 : ℕ
@@ -10,6 +10,10 @@ pub record Four : Type 0 where
 -- the four numbers of a list, by their places
 abbrev pub four : List ℕ → Four
 four xs = record { site0 = slice_index xs 0; site1 = slice_index xs 1; site2 = slice_index xs 2; site3 = slice_index xs 3 }
+
+-- the same as a list
+abbrev pub listed : Four → List ℕ
+listed x = x.site0 ∷ x.site1 ∷ x.site2 ∷ x.site3 ∷ []
 
 abbrev pub row_of : ℕ → ℕ → ℕ → ℕ → Four
 row_of a b c d = record { site0 = a; site1 = b; site2 = c; site3 = d }

@@ -1,8 +1,7 @@
 // What a clock rule is.
 ghost use Rattle.std.specs.Prelude.{◌≡◌, ℕ, Result};
 ghost use Rattle.stamps.specs.declared.refusal.Refusal.{Refusal};
-ghost use Rattle.stamps.specs.Checks.{stamp_number};
-ghost use Rattle.stamps.specs.Clocks.{LawfulRule};
+ghost use Rattle.stamps.specs.Clocks.{Allowed, LawfulRule};
 
 use crate::reading::Reading;
 use crate::refusal::Refusal;
@@ -15,7 +14,8 @@ pub trait ClockRule {
 
     // The three are all that a rule is asked. No struct has them: nothing keeps them together before or after.
     fn stamp(last: Stamp, reading: Reading, dependency: Stamp) -> Result<Stamp, Refusal>
-        ensures { stamp_number result ≡ answer last.value reading.time dependency.value };
+        ensures value { result ≡ answer last reading dependency }
+        ensures allowed { Allowed last dependency result };
 
     // The whole meaning of a rule: an answered stamp is above both stamps, and a refusal is early or end.
     ghost lawful: { LawfulRule answer };

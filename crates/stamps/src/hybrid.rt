@@ -20,7 +20,7 @@ impl ClockRule for Hybrid {
         if last == Stamp::top() || dependency == Stamp::top() {
             return Err(Refusal::End);
         }
-        let time = last.time().max(dependency.time()).max(reading.time);
+        let time = last.time().max(dependency.time()).max(reading.time());
         let count = match (last.time() == time, dependency.time() == time) {
             (true, true) => last.count().max(dependency.count()) + 1,
             (true, false) => last.count() + 1,
@@ -34,7 +34,7 @@ impl ClockRule for Hybrid {
 // The stamp of a time and a count; a count that passes its 16 bits becomes one more of the time.
 fn carry(time: u64, count: u64) -> Stamp
     requires { (stamp_of time count < 2 ^ 63) × (count ≤ 65536) }
-    ensures { result.value ≡ carried time count }
+    ensures { result ≡ carried time count }
 {
     if count >= COUNTS {
         Stamp::of(time + 1, 0)

@@ -1,8 +1,13 @@
-// Stamps, the clock rules that make them, and rows of stamps.
+// Stamps, the clock rules that make them, rows of stamps, and kinds of mark with their common floor.
 #![tactic(auto)]
 
 pub mod clock_rule;
+pub mod common_floor;
+pub mod each;
+pub mod edges;
 pub mod hybrid;
+pub mod mark_kind;
+pub mod one;
 pub mod outside;
 pub mod raw;
 pub mod reading;

@@ -1,16 +1,18 @@
-// Clock rules, asked with plain numbers: these are checked first, stamps before readings.
+// Clock rules and kinds of mark, asked with plain numbers: these are checked first, stamps before readings and sites.
 ghost use Rattle.std.specs.Prelude.{◌≡◌};
-ghost use Rattle.stamps.specs.Checks.{stamp_number};
-ghost use Rattle.stamps.specs.Outside.{asked_stamp, signed_number};
+ghost use Rattle.stamps.specs.Outside.{asked_stamp, signed_number, asked_floor, asked_lift, answered_row};
 
 use crate::clock_rule::ClockRule;
+use crate::mark_kind::MarkKind;
 use crate::reading::Reading;
 use crate::refusal::Refusal;
+use crate::row::Row;
+use crate::site::Site;
 use crate::stamp::Stamp;
 
 // The stamp that a rule answers to three numbers.
 pub fn stamp_from<C: ClockRule>(last: u64, reading: u64, dependency: u64) -> Result<Stamp, Refusal>
-    ensures { stamp_number result ≡ asked_stamp C.ClockRule.answer last reading dependency }
+    ensures { result ≡ asked_stamp C.ClockRule.answer last reading dependency }
 {
     let last = Stamp::try_from(last)?;
     let dependency = Stamp::try_from(dependency)?;
@@ -20,10 +22,10 @@ pub fn stamp_from<C: ClockRule>(last: u64, reading: u64, dependency: u64) -> Res
 
 // An answer as one signed number, for callers in other languages: the stamp, or minus the refusal's number.
 fn signed(answer: Result<Stamp, Refusal>) -> i64
-    ensures { result ≡ signed_number (stamp_number answer) }
+    ensures { result ≡ signed_number answer }
 {
     match answer {
-        Ok(stamp) => stamp.value as i64,
+        Ok(stamp) => stamp.value() as i64,
         Err(why) => -i64::from(why.number()),
     }
 }
@@ -33,4 +35,20 @@ pub fn signed_stamp<C: ClockRule>(last: u64, reading: u64, dependency: u64) -> i
     ensures { result ≡ signed_number (asked_stamp C.ClockRule.answer last reading dependency) }
 {
     signed(stamp_from::<C>(last, reading, dependency))
+}
+
+// The floor of four numbers as a row.
+pub fn floor_from<K: MarkKind>(entries: [u64; 4]) -> Result<K::Mark, Refusal>
+    ensures { answered_row K.MarkKind.meaning result ≡ asked_floor K.MarkKind.kind entries }
+{
+    Ok(K::floor(Row::try_from(entries)?))
+}
+
+// The lift of a site and a stamp.
+pub fn lift_from<K: MarkKind>(site: u8, stamp: u64) -> Result<K::Mark, Refusal>
+    ensures { answered_row K.MarkKind.meaning result ≡ asked_lift K.MarkKind.kind site stamp }
+{
+    let stamp = Stamp::try_from(stamp)?;
+    let site = Site::try_from(site)?;
+    Ok(K::lift(site, stamp))
 }

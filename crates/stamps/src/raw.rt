@@ -15,7 +15,7 @@ impl ClockRule for Raw {
     ghost lawful = { raw_lawful };
 
     fn stamp(last: Stamp, reading: Reading, dependency: Stamp) -> Result<Stamp, Refusal> {
-        let made = Stamp::of(reading.time, 0);
+        let made = Stamp::of(reading.time(), 0);
         if made <= last || made <= dependency {
             return Err(Refusal::Early);
         }

@@ -1,12 +1,27 @@
-// A row: a stamp for each site number. Numbers and no `Stamp`s, since clauses speak of the four numbers.
-ghost use Rattle.std.specs.Prelude.{◌≡◌, length};
-ghost use Rattle.stamps.specs.Rows.{Stamps, four};
+// A row: a stamp for each site number.
+use std::marker::Model;
 
 #[derive(Clone, Copy)]
 pub struct Row {
-    pub(crate) entries: [u64; 4],
-    ghost sites: { length entries ≡ 4 },
-    ghost stamps: { Stamps (four entries) },
+    entries: [u64; 4],
+}
+
+// In clauses a row is its four numbers.
+impl Model for Row {
+    ghost use Rattle.std.specs.Prelude.{◌≡◌, length};
+    ghost use Rattle.stamps.specs.Rows.{Four, Stamps, four, listed};
+
+    ghost Value = { Four };
+
+    ghost view = { λ r. four r.entries };
+
+    ghost invariant = { λ r. (length r.entries ≡ 4) × Stamps (four r.entries) };
+
+    ghost inverse = { λ x. record { entries = listed x } };
+
+    ghost use Rattle.stamps.specs.RowLists.{listed-four};
+
+    ghost inverse_ok = { λ r h i. record { entries = listed-four r.entries h.0 i } };
 }
 
 mod methods;

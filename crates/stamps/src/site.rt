@@ -1,11 +1,23 @@
 // The number of a site.
-ghost use Rattle.std.specs.Prelude.{◌<◌};
+use std::marker::Model;
 
 // From 0 to 3: a row has an entry for each.
 #[derive(Clone, Copy, PartialEq, Eq, PartialOrd, Ord)]
 pub struct Site {
     pub(crate) number: u8,
-    ghost below: { number < 4 },
+}
+
+// In clauses a site is its number.
+impl Model for Site {
+    ghost use Rattle.std.specs.Prelude.{ℕ, ◌<◌};
+
+    ghost Value = { ℕ };
+
+    ghost view = { λ s. s.number };
+
+    ghost invariant = { λ s. s.number < 4 };
+
+    ghost inverse = { λ n. record { number = n } };
 }
 
 mod methods;

@@ -1,10 +1,10 @@
 // Lines as they are listed, and the buffers that they go into.
 use group::group::Group;
 use group::layout::Draft;
-use marks::each::Each;
 use script::list::{list, list_into};
 use script::listing::Listing;
 use script::script::Script;
+use stamps::each::Each;
 use stamps::hybrid::Hybrid;
 use stamps::refusal::Refusal;
 use std::alloc::Global;

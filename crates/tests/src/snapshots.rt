@@ -3,20 +3,21 @@ use group::group::Group;
 use group::layout::Draft;
 use group::shown::Shown;
 use group::ticket::Ticket;
-use marks::each::Each;
+use stamps::each::Each;
 use stamps::hybrid::Hybrid;
 use stamps::refusal::Refusal;
+use std::process::Abort;
 use std::test::Fail;
 
 // A group of two sites and one partition, with a session at site 0.
-fn group_of_two() -> Result<Group<Hybrid, Each>, Refusal> {
-    let mut group = Group::new(Draft {
+fn group_of_two(rt: &impl Abort) -> Group<Hybrid, Each> {
+    let draft = Draft {
         sites: 2,
         partitions: 1,
-    }
-    .check()?);
-    group.open_session(0)?;
-    Ok(group)
+    };
+    let mut group = Group::new(draft.check().expect(rt, "a layout"));
+    group.open_session(0).expect(rt, "a session");
+    group
 }
 
 // Closes what was opened; why not, if it was refused.
@@ -40,7 +41,7 @@ fn amount(shown: Result<Option<Shown>, Refusal>) -> Result<Option<u32>, Refusal>
 
 #[test]
 fn four_snapshots_and_no_fifth(rt: HostRuntime) -> Result<(), Fail> {
-    let mut group = group_of_two()?;
+    let mut group = group_of_two(&rt);
     let first = group.open_snapshot(0, 0);
     let second = group.open_snapshot(0, 0);
     let third = group.open_snapshot(0, 0);
@@ -59,8 +60,8 @@ fn four_snapshots_and_no_fifth(rt: HostRuntime) -> Result<(), Fail> {
 // A ticket of another group, whose seat is not open here.
 #[test]
 fn a_ticket_without_its_seat_is_refused(rt: HostRuntime) -> Result<(), Fail> {
-    let mut other = group_of_two()?;
-    let mut group = group_of_two()?;
+    let mut other = group_of_two(&rt);
+    let mut group = group_of_two(&rt);
     let (read, closed) = match other.open_snapshot(0, 0) {
         Ok(ticket) => {
             let read = amount(group.read(&ticket, 1));
@@ -76,8 +77,8 @@ fn a_ticket_without_its_seat_is_refused(rt: HostRuntime) -> Result<(), Fail> {
 // The seat of a closed snapshot is used again under the next serial number.
 #[test]
 fn a_seat_is_used_again_under_a_new_number(rt: HostRuntime) -> Result<(), Fail> {
-    let mut other = group_of_two()?;
-    let mut group = group_of_two()?;
+    let mut other = group_of_two(&rt);
+    let mut group = group_of_two(&rt);
     let first = group.open_snapshot(0, 0);
     let first = close_opened(&mut group, first);
     let again = group.open_snapshot(0, 0);
@@ -94,7 +95,7 @@ fn a_seat_is_used_again_under_a_new_number(rt: HostRuntime) -> Result<(), Fail> 
 // A key with a version that site 0 has stable, and a later one after the opening.
 #[test]
 fn a_read_does_not_change(rt: HostRuntime) -> Result<(), Fail> {
-    let mut group = group_of_two()?;
+    let mut group = group_of_two(&rt);
     group.put(0, 1, 1, 10)?;
     group.report(0, 0)?;
     group.stabilise(0, 0)?;

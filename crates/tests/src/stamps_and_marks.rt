@@ -1,13 +1,12 @@
 // The edges of stamps, clock rules and marks, and what each refuses.
-use commands::command::Command;
 use group::layout::Draft;
-use marks::common_floor::common_floor;
-use marks::each::Each;
-use marks::mark_kind::MarkKind;
-use marks::one::One;
-use marks::outside::{floor_from, lift_from};
+use script::command::Command;
+use stamps::common_floor::common_floor;
+use stamps::each::Each;
 use stamps::hybrid::Hybrid;
-use stamps::outside::signed_stamp;
+use stamps::mark_kind::MarkKind;
+use stamps::one::One;
+use stamps::outside::{floor_from, lift_from, signed_stamp};
 use stamps::raw::Raw;
 use stamps::reading::Reading;
 use stamps::refusal::Refusal;

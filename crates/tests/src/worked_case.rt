@@ -2,11 +2,11 @@
 use group::group::Group;
 use group::layout::Draft;
 use group::shown::Shown;
-use marks::each::Each;
-use marks::mark_kind::MarkKind;
-use marks::one::One;
 use stamps::clock_rule::ClockRule;
+use stamps::each::Each;
 use stamps::hybrid::Hybrid;
+use stamps::mark_kind::MarkKind;
+use stamps::one::One;
 use stamps::raw::Raw;
 use stamps::refusal::Refusal;
 use std::process::Abort;
@@ -50,7 +50,11 @@ fn with_basis<C: ClockRule, K: MarkKind>() -> Result<Group<C, K>, Refusal> {
     Ok(group)
 }
 
-fn run_worked_case<C: ClockRule, K: MarkKind>(mut group: Group<C, K>) -> Result<Sights, Refusal> {
+fn run_worked_case<C: ClockRule, K: MarkKind>() -> Result<Sights, Refusal> {
+    run_on(with_basis::<C, K>()?)
+}
+
+fn run_on<C: ClockRule, K: MarkKind>(mut group: Group<C, K>) -> Result<Sights, Refusal> {
     let _ = group.put(0, 3, 2, 1_200);
     let _ = group.deliver(0, 1, 1);
     let overtaken = amount(group.get(1, 3)?);
@@ -81,7 +85,7 @@ fn check_sights(rt: &impl Abort, sights: Sights, percent: Option<u32>, basis: Op
 fn hybrid_with_a_stamp_for_each_site(rt: HostRuntime) -> Result<(), Fail> {
     check_sights(
         &rt,
-        run_worked_case::<Hybrid, Each>(with_basis()?)?,
+        run_worked_case::<Hybrid, Each>()?,
         Some(1_200),
         Some(1),
     );
@@ -91,26 +95,24 @@ fn hybrid_with_a_stamp_for_each_site(rt: HostRuntime) -> Result<(), Fail> {
 // One stamp for all sites waits for the other site's own clock as well.
 #[test]
 fn hybrid_with_one_stamp(rt: HostRuntime) -> Result<(), Fail> {
-    check_sights(
-        &rt,
-        run_worked_case::<Hybrid, One>(with_basis()?)?,
-        None,
-        None,
-    );
+    check_sights(&rt, run_worked_case::<Hybrid, One>()?, None, None);
     Ok(())
 }
 
 // The clock of partition 1 was never told a time, so a raw put there is early.
 #[test]
 fn raw_with_a_stamp_for_each_site(rt: HostRuntime) -> Result<(), Fail> {
-    let mut group = with_basis::<Raw, Each>()?;
+    let mut group = match with_basis::<Raw, Each>() {
+        Ok(group) => group,
+        Err(why) => return Err(why.into()),
+    };
     assert_eq!(rt; group.put(0, 3, 2, 1_200).err(), Some(Refusal::Early));
-    check_sights(&rt, run_worked_case(group)?, None, None);
+    check_sights(&rt, run_on(group)?, None, None);
     Ok(())
 }
 
 #[test]
 fn raw_with_one_stamp(rt: HostRuntime) -> Result<(), Fail> {
-    check_sights(&rt, run_worked_case::<Raw, One>(with_basis()?)?, None, None);
+    check_sights(&rt, run_worked_case::<Raw, One>()?, None, None);
     Ok(())
 }

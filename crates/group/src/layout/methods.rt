@@ -1,8 +1,7 @@
 // The check of a draft, and questions to a checked layout.
 ghost use Rattle.std.specs.Prelude.{◌≡◌, ◌%◌};
-ghost use Rattle.stamps.specs.Checks.{site_number};
-ghost use Rattle.model.specs.Groups.{is_server};
-ghost use Rattle.group.specs.Layouts.{counts_of, checked_counts, below, partition_number, place_numbers, checked_place, line_numbers, checked_line};
+ghost use Rattle.group.specs.Model.Groups.{is_server};
+ghost use Rattle.group.specs.Layouts.{counts_of, checked_counts, below, checked_place, checked_line};
 
 use super::{Draft, Layout};
 use crate::partition::Partition;
@@ -27,7 +26,7 @@ impl Draft {
 
 impl Layout {
     pub(crate) fn sites(&self) -> SiteCount
-        ensures { result.number ≡ self.now.sites.number }
+        ensures { result ≡ self.now.sites }
     {
         self.sites
     }
@@ -40,7 +39,7 @@ impl Layout {
 
     // A site of the layout.
     pub(crate) fn site(&self, number: u8) -> Result<Site, Refusal>
-        ensures { site_number result ≡ below self.now.sites.number number }
+        ensures { result ≡ below self.now.sites number }
     {
         if number >= self.sites.number() {
             return Err(Refusal::NotInLayout);
@@ -50,7 +49,7 @@ impl Layout {
 
     // A partition of the layout.
     pub(crate) fn partition(&self, number: u8) -> Result<Partition, Refusal>
-        ensures { partition_number result ≡ below self.now.partitions number }
+        ensures { result ≡ below self.now.partitions number }
     {
         if number >= self.partitions {
             return Err(Refusal::NotInLayout);
@@ -60,7 +59,7 @@ impl Layout {
 
     // The partition of a key.
     pub(crate) fn partition_of(&self, key: u16) -> Partition
-        ensures { result.number ≡ key % self.now.partitions }
+        ensures { result ≡ key % self.now.partitions }
     {
         Partition {
             number: (key % self.partitions as u16) as u8,
@@ -69,14 +68,14 @@ impl Layout {
 
     // Whether the site has such a server.
     pub fn has_server(&self, site: u8, partition: u8) -> bool
-        ensures { result ≡ is_server self.now.sites.number self.now.partitions site partition }
+        ensures { result ≡ is_server self.now.sites self.now.partitions site partition }
     {
         self.place(site, partition).is_ok()
     }
 
     // Where the server of a site and a partition stands.
     pub(crate) fn place(&self, site: u8, partition: u8) -> Result<Place, Refusal>
-        ensures { place_numbers result ≡ checked_place self.now.sites.number self.now.partitions site partition }
+        ensures { result ≡ checked_place self.now.sites self.now.partitions site partition }
     {
         let site = self.site(site)?;
         let partition = self.partition(partition)?;
@@ -85,7 +84,7 @@ impl Layout {
 
     // The two servers of a partition between which entries go from one site to the other.
     pub(crate) fn line(&self, from: u8, to: u8, partition: u8) -> Result<(Place, Place), Refusal>
-        ensures { line_numbers result ≡ checked_line self.now.sites.number self.now.partitions from to partition }
+        ensures { result ≡ checked_line self.now.sites self.now.partitions from to partition }
     {
         let sender = self.place(from, partition)?;
         let taker = self.place(to, partition)?;

@@ -1,9 +1,6 @@
 // Answers put at the end of a line.
 ghost use Rattle.std.specs.Prelude.{◌≡◌, ◌≤◌, ◌++◌, length, decimal};
-ghost use Rattle.std.specs.Option.{option_map};
-ghost use Rattle.servers.specs.Values.{worth, basis_worth};
-ghost use Rattle.group.specs.Answers.{shown_state, shown_numbers};
-ghost use Rattle.script.specs.Answers.{said, printed, stamp_text, refusal_text, value_text, version_text, shown_text, read_text};
+ghost use Rattle.script.specs.Answers.{said, printed, stamp_text, refusal_text, value_text, basis_text, version_text, shown_text, read_text};
 ghost use Rattle.script.specs.Lines.{text_of, onto};
 
 use super::Line;
@@ -36,8 +33,8 @@ impl Line {
 
     // What one read answers.
     fn read(&mut self, res: Result<Option<Shown>, Refusal>)
-        ensures text { text_of self.new ≡ onto (text_of self.old) (read_text (shown_numbers res)) }
-        ensures short { length (read_text (shown_numbers res)) ≤ 42 }
+        ensures text { text_of self.new ≡ onto (text_of self.old) (read_text res) }
+        ensures short { length (read_text res) ≤ 42 }
     {
         match res {
             Ok(version) => self.shown(version),
@@ -46,8 +43,8 @@ impl Line {
     }
 
     fn shown(&mut self, version: Option<Shown>)
-        ensures text { text_of self.new ≡ onto (text_of self.old) (shown_text (option_map shown_state version)) }
-        ensures short { length (shown_text (option_map shown_state version)) ≤ 42 }
+        ensures text { text_of self.new ≡ onto (text_of self.old) (shown_text version) }
+        ensures short { length (shown_text version) ≤ 42 }
     {
         match version {
             None => self.text(b"none"),
@@ -57,8 +54,8 @@ impl Line {
 
     // A version as its value, its stamp and its source.
     fn version(&mut self, version: Shown)
-        ensures text { text_of self.new ≡ onto (text_of self.old) (version_text (shown_state version)) }
-        ensures short { length (version_text (shown_state version)) ≤ 42 }
+        ensures text { text_of self.new ≡ onto (text_of self.old) (version_text version) }
+        ensures short { length (version_text version) ≤ 42 }
     {
         self.value(version.value);
         self.byte(b' ');
@@ -68,8 +65,8 @@ impl Line {
     }
 
     fn value(&mut self, value: Value)
-        ensures text { text_of self.new ≡ onto (text_of self.old) (value_text (worth value)) }
-        ensures short { length (value_text (worth value)) ≤ 18 }
+        ensures text { text_of self.new ≡ onto (text_of self.old) (value_text value) }
+        ensures short { length (value_text value) ≤ 18 }
     {
         match value {
             Value::Gone => self.text(b"gone"),
@@ -80,8 +77,8 @@ impl Line {
     }
 
     fn basis(&mut self, basis: Basis)
-        ensures text { text_of self.new ≡ onto (text_of self.old) (value_text (basis_worth basis)) }
-        ensures short { length (value_text (basis_worth basis)) ≤ 18 }
+        ensures text { text_of self.new ≡ onto (text_of self.old) (basis_text basis) }
+        ensures short { length (basis_text basis) ≤ 18 }
     {
         match basis {
             Basis::Part => self.text(b"basis part"),
@@ -100,8 +97,8 @@ impl Line {
 
     // A stamp as its time and its count.
     fn stamp(&mut self, stamp: Stamp)
-        ensures text { text_of self.new ≡ onto (text_of self.old) (stamp_text stamp.value) }
-        ensures short { length (stamp_text stamp.value) ≤ 21 }
+        ensures text { text_of self.new ≡ onto (text_of self.old) (stamp_text stamp) }
+        ensures short { length (stamp_text stamp) ≤ 21 }
     {
         self.number(stamp.time());
         self.byte(b'.');

@@ -7,7 +7,7 @@ use super::ScriptOver;
 use crate::answer::Answer;
 use crate::line::{MOST_BYTES, write_line};
 use crate::obeys::Obeys;
-use commands::reader::read;
+use crate::reader::read;
 use stamps::refusal::Refusal;
 
 impl<'a, G: Obeys> ScriptOver<'a, G> {

@@ -1,7 +1,7 @@
 // The methods of `Counts`.
 ghost use Rattle.std.specs.Prelude.{◌≡◌, ◌-◌, ◌<◌};
 ghost use Rattle.stamps.specs.Rows.{at, same, greatest, with_entry};
-ghost use Rattle.servers.specs.Counting.{counts, one_more};
+ghost use Rattle.servers.specs.Counting.{one_more};
 
 use super::Counts;
 use crate::peers::Peers;
@@ -9,19 +9,19 @@ use stamps::site::Site;
 
 impl Counts {
     pub(crate) fn zero() -> Counts
-        ensures { counts result ≡ same 0 }
+        ensures { result ≡ same 0 }
     {
         Counts { numbers: [0; 4] }
     }
 
     pub(crate) fn at(&self, site: Site) -> u8
-        ensures { result ≡ at (counts self.now) site.number }
+        ensures { result ≡ at self.now site }
     {
         self.numbers[site.number() as usize]
     }
 
     pub(crate) fn greatest(&self) -> u8
-        ensures { result ≡ greatest (counts self.now) }
+        ensures { result ≡ greatest self.now }
     {
         let [a, b, c, d] = self.numbers;
         a.max(b).max(c.max(d))
@@ -29,8 +29,8 @@ impl Counts {
 
     // One more for each other site of a layout.
     pub(crate) fn one_more(&self, peers: Peers) -> Counts
-        requires { greatest (counts self.now) < 255 }
-        ensures { counts result ≡ one_more peers.own.number peers.sites.number (counts self.now) }
+        requires { greatest self.now < 255 }
+        ensures { result ≡ one_more peers.own peers.sites self.now }
     {
         let [a, b, c, d] = self.numbers;
         Counts {
@@ -45,7 +45,7 @@ impl Counts {
 
     // One less for a site, and never below 0.
     pub(crate) fn one_less(&self, site: Site) -> Counts
-        ensures { counts result ≡ with_entry (counts self.now) site.number (at (counts self.now) site.number - 1) }
+        ensures { result ≡ with_entry self.now site (at self.now site - 1) }
     {
         let mut numbers = self.numbers;
         let index = site.number() as usize;

@@ -1,7 +1,5 @@
 // The methods of `Outbox`.
 ghost use Rattle.std.specs.Prelude.{◌≡◌};
-ghost use Rattle.std.specs.Option.{option_map};
-ghost use Rattle.servers.specs.Entries.{sent};
 ghost use Rattle.servers.specs.Laws.{QueueLaw};
 ghost use Rattle.servers.specs.Others.{is_other};
 ghost use Rattle.servers.specs.Outboxes.{waiting, none_waiting, outbox_full, issued, next_for, taken_by, issued_if_room};
@@ -17,7 +15,7 @@ use stamps::stamp::Stamp;
 impl Outbox {
     pub(crate) fn new(peers: Peers) -> Outbox
         ensures empty { waiting result ≡ none_waiting }
-        ensures law { QueueLaw peers.own.number peers.sites.number }
+        ensures law { QueueLaw peers.own peers.sites }
         ensures peers { result.peers ≡ peers }
     {
         Outbox {
@@ -29,28 +27,28 @@ impl Outbox {
 
     // The site whose outbox it is.
     pub(crate) fn own(&self) -> Site
-        ensures { result.number ≡ self.now.peers.own.number }
+        ensures { result ≡ self.now.peers.own }
     {
         self.peers.own
     }
 
     // Whether it is another site of the layout.
     pub(crate) fn has_other(&self, site: Site) -> bool
-        ensures { result ≡ is_other self.now.peers.own.number self.now.peers.sites.number site.number }
+        ensures { result ≡ is_other self.now.peers.own self.now.peers.sites site }
     {
         self.peers.has_other(site.number())
     }
 
     // Whether some other site has as many entries still to take as are kept for it.
     pub(crate) fn is_full(&self) -> bool
-        ensures { result ≡ outbox_full self.now.peers.own.number self.now.peers.sites.number (waiting self.now) }
+        ensures { result ≡ outbox_full self.now.peers.own self.now.peers.sites (waiting self.now) }
     {
         self.entries.is_full()
     }
 
     // One entry more for every other site; a full outbox stays as it is.
     pub(crate) fn issue(&mut self, entry: Entry)
-        ensures queues { waiting self.new ≡ issued_if_room self.old.peers.own.number self.old.peers.sites.number (waiting self.old) (sent entry) }
+        ensures queues { waiting self.new ≡ issued_if_room self.old.peers.own self.old.peers.sites (waiting self.old) entry }
         ensures peers { self.new.peers ≡ self.old.peers }
     {
         if self.is_full() {
@@ -62,7 +60,7 @@ impl Outbox {
 
     // The next entry that a site has still to take.
     pub(crate) fn next_for(&self, site: Site) -> Option<Entry>
-        ensures { option_map sent result ≡ next_for (waiting self.now) site.number }
+        ensures { result ≡ next_for (waiting self.now) site }
     {
         let entries = self.entries.as_slice();
         let left = self.left.at(site) as usize;
@@ -74,7 +72,7 @@ impl Outbox {
 
     // A site takes its next entry, if there is one. What no site has still to take any more is gone.
     pub(crate) fn take(&mut self, site: Site)
-        ensures queues { waiting self.new ≡ taken_by (waiting self.old) site.number }
+        ensures queues { waiting self.new ≡ taken_by (waiting self.old) site }
         ensures peers { self.new.peers ≡ self.old.peers }
     {
         let left = self.left.one_less(site);

@@ -1,6 +1,6 @@
 // How a percentage is made.
 ghost use Rattle.std.specs.Prelude.{◌≡◌};
-ghost use Rattle.servers.specs.Percents.{percent_number, checked_percent};
+ghost use Rattle.servers.specs.Percents.{checked_percent};
 
 use super::Percent;
 use stamps::refusal::Refusal;
@@ -9,7 +9,7 @@ use stamps::refusal::Refusal;
 impl TryFrom<u32> for Percent {
     type Error = Refusal;
 
-    ghost try_from_gives = { λ hundredths percent. percent_number percent ≡ checked_percent hundredths };
+    ghost try_from_gives = { λ hundredths percent. percent ≡ checked_percent hundredths };
 
     fn try_from(hundredths: u32) -> Result<Percent, Refusal> {
         if hundredths > 10_000 {

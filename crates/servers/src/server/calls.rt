@@ -1,20 +1,16 @@
 // A server's part of the calls that tell its clock, write, and send and take entries.
 ghost use Rattle.std.specs.Prelude.{◌≡◌, ◌==◌};
-ghost use Rattle.stamps.specs.Checks.{stamp_number};
 ghost use Rattle.stamps.specs.Refusals.{RefusalKeeps};
-ghost use Rattle.std.specs.Option.{option_map};
-ghost use Rattle.servers.specs.Entries.{sent};
 ghost use Rattle.servers.specs.Laws.{Above};
 ghost use Rattle.servers.specs.Outboxes.{next_for};
-ghost use Rattle.servers.specs.Values.{worth};
 ghost use Rattle.servers.specs.Servers.{view, last_of, telling, heartbeating, putting, handing, taking, taking_other, lead_of};
 
 use super::Server;
 use crate::entry::Entry;
 use crate::value::Value;
 use crate::version::Version;
-use marks::mark_kind::MarkKind;
 use stamps::clock_rule::ClockRule;
+use stamps::mark_kind::MarkKind;
 use stamps::reading::Reading;
 use stamps::refusal::Refusal;
 use stamps::site::Site;
@@ -36,8 +32,8 @@ impl<C: ClockRule, K: MarkKind> Server<C, K> {
 
     // A new stamp for the other sites, with nothing written.
     pub fn heartbeat(&mut self) -> Result<Stamp, Refusal>
-        ensures step { (stamp_number result, view self.new) ≡ heartbeating C.ClockRule.answer (view self.old) }
-        ensures rises { Above (last_of (view self.old)) (stamp_number result) }
+        ensures step { (result, view self.new) ≡ heartbeating C.ClockRule.answer (view self.old) }
+        ensures rises { Above (last_of (view self.old)) result }
         ensures keeps { RefusalKeeps result (view self.old) (view self.new) }
     {
         if self.outbox.is_full() {
@@ -58,8 +54,8 @@ impl<C: ClockRule, K: MarkKind> Server<C, K> {
         depends: K::Mark,
         knows: K::Mark,
     ) -> Result<Stamp, Refusal>
-        ensures step { (stamp_number result, view self.new) ≡ putting C.ClockRule.answer K.MarkKind.kind (view self.old) key (worth value) (K.MarkKind.meaning depends) (K.MarkKind.meaning knows) }
-        ensures rises { Above (last_of (view self.old)) (stamp_number result) }
+        ensures step { (result, view self.new) ≡ putting C.ClockRule.answer K.MarkKind.kind (view self.old) key value (K.MarkKind.meaning depends) (K.MarkKind.meaning knows) }
+        ensures rises { Above (last_of (view self.old)) result }
         ensures keeps { RefusalKeeps result (view self.old) (view self.new) }
     {
         if self.table.is_full() {
@@ -79,7 +75,7 @@ impl<C: ClockRule, K: MarkKind> Server<C, K> {
             mark,
         };
         self.received = self.received.with_entry(source, stamp);
-        self.table.keep(version);
+        self.table.keep(&version);
         self.outbox.issue(Entry::Update(version));
         self.raise(knows);
         Ok(stamp)
@@ -87,8 +83,8 @@ impl<C: ClockRule, K: MarkKind> Server<C, K> {
 
     // The stamp that the rule gives after the last one and a dependency.
     fn next_stamp(&self, dependency: Stamp) -> Result<Stamp, Refusal>
-        ensures value { stamp_number result ≡ C.ClockRule.answer (last_of (view self.now)) self.now.reading.time dependency.value }
-        ensures rises { Above (last_of (view self.now)) (stamp_number result) }
+        ensures value { result ≡ C.ClockRule.answer (last_of (view self.now)) self.now.reading dependency }
+        ensures rises { Above (last_of (view self.now)) result }
     {
         C::stamp(
             self.received.at(self.outbox.own()),
@@ -99,21 +95,21 @@ impl<C: ClockRule, K: MarkKind> Server<C, K> {
 
     // The next entry that a site has still to take from this server.
     pub fn next_for(&self, site: Site) -> Option<Entry>
-        ensures { option_map sent result ≡ next_for (view self.now).waiting site.number }
+        ensures { result ≡ next_for (view self.now).waiting site }
     {
         self.outbox.next_for(site)
     }
 
     // A site has taken its next entry.
     pub fn hand_over(&mut self, site: Site)
-        ensures { view self.new ≡ handing (view self.old) site.number }
+        ensures { view self.new ≡ handing (view self.old) site }
     {
         self.outbox.take(site);
     }
 
     // Takes an entry of another site's server; one of any other origin is refused.
     pub fn take(&mut self, from: Site, entry: Entry) -> Result<(), Refusal>
-        ensures step { (result, view self.new) ≡ taking (view self.old) from.number (sent entry) }
+        ensures step { (result, view self.new) ≡ taking (view self.old) from entry }
         ensures keeps { RefusalKeeps result (view self.old) (view self.new) }
     {
         if !self.outbox.has_other(from) {
@@ -124,10 +120,10 @@ impl<C: ClockRule, K: MarkKind> Server<C, K> {
 
     // Takes an entry of a server that stands at another site of the layout.
     fn take_other(&mut self, from: Site, entry: Entry) -> Result<(), Refusal>
-        ensures step { (result, view self.new) ≡ taking_other (view self.old) from.number (sent entry) }
+        ensures step { (result, view self.new) ≡ taking_other (view self.old) from entry }
         ensures keeps { RefusalKeeps result (view self.old) (view self.new) }
     {
-        if let Entry::Update(taken) = entry {
+        if let Entry::Update(taken) = &entry {
             if self.table.is_full() {
                 return Err(Refusal::TableFull);
             }

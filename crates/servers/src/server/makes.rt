@@ -1,6 +1,5 @@
 // The making of a server.
 ghost use Rattle.std.specs.Prelude.{◌≡◌};
-ghost use Rattle.stamps.specs.Rows.{four};
 ghost use Rattle.servers.specs.Laws.{QueueLaw, RisingLaw};
 ghost use Rattle.servers.specs.Servers.{view, fresh, first_received, first_entry};
 
@@ -11,8 +10,8 @@ use crate::site_count::SiteCount;
 use crate::table::VersionTable;
 use crate::value::Value;
 use crate::version::Version;
-use marks::mark_kind::MarkKind;
 use stamps::clock_rule::ClockRule;
+use stamps::mark_kind::MarkKind;
 use stamps::reading::Reading;
 use stamps::row::Row;
 use stamps::site::Site;
@@ -22,9 +21,9 @@ use std::marker::PhantomData;
 impl<C: ClockRule, K: MarkKind> Server<C, K> {
     // A server that holds nothing, and has received nothing from the sites of its layout.
     pub fn new(site: Site, sites: SiteCount) -> Self
-        ensures state { view result ≡ fresh site.number sites.number }
-        ensures queues { QueueLaw site.number sites.number }
-        ensures rising { RisingLaw C.ClockRule.answer K.MarkKind.kind site.number sites.number }
+        ensures state { view result ≡ fresh site sites }
+        ensures queues { QueueLaw site sites }
+        ensures rising { RisingLaw C.ClockRule.answer K.MarkKind.kind site sites }
     {
         stamps_rise::<C, K>(site, sites);
         let zero = Row::same(Stamp::zero());
@@ -50,12 +49,12 @@ impl<C: ClockRule, K: MarkKind> Server<C, K> {
 
 // The law that a server's own stamps rise, under every clock rule and kind of mark. It has no code.
 fn stamps_rise<C: ClockRule, K: MarkKind>(site: Site, sites: SiteCount)
-    ensures { RisingLaw C.ClockRule.answer K.MarkKind.kind site.number sites.number }
+    ensures { RisingLaw C.ClockRule.answer K.MarkKind.kind site sites }
 {}
 
 // What was received before anything was taken.
 fn first_received(sites: SiteCount) -> Row
-    ensures { four result.entries ≡ first_received sites.number }
+    ensures { result ≡ first_received sites }
 {
     Row::of(
         first_entry(sites, 0),
@@ -67,7 +66,7 @@ fn first_received(sites: SiteCount) -> Row
 
 // 0.0 for a site of the layout; the greatest stamp for one that the layout lacks.
 fn first_entry(sites: SiteCount, site: u8) -> Stamp
-    ensures { result.value ≡ first_entry sites.number site }
+    ensures { result ≡ first_entry sites site }
 {
     if site < sites.number() {
         Stamp::zero()

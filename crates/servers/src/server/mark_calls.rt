@@ -1,24 +1,23 @@
 // A server's part of the calls on its marks.
 ghost use Rattle.std.specs.Prelude.{◌≡◌};
-ghost use Rattle.stamps.specs.Rows.{four};
 ghost use Rattle.servers.specs.Servers.{view, raised, reporting};
 
 use super::Server;
-use marks::mark_kind::MarkKind;
 use stamps::clock_rule::ClockRule;
+use stamps::mark_kind::MarkKind;
 use stamps::row::Row;
 
 impl<C: ClockRule, K: MarkKind> Server<C, K> {
     // The row of the stable mark.
     pub fn stable(&self) -> Row
-        ensures { four result.entries ≡ (view self.now).marks.stable }
+        ensures { result ≡ (view self.now).marks.stable }
     {
         self.stable
     }
 
     // The row of the reported mark.
     pub fn reported(&self) -> Row
-        ensures { four result.entries ≡ (view self.now).marks.reported }
+        ensures { result ≡ (view self.now).marks.reported }
     {
         self.reported
     }

@@ -1,6 +1,5 @@
 // Where a server stands, and its part of the calls that look for versions and drop them.
 ghost use Rattle.std.specs.Prelude.{◌≡◌};
-ghost use Rattle.servers.specs.Held.{shown};
 ghost use Rattle.servers.specs.Laws.{IsLatest, IsTidied};
 ghost use Rattle.servers.specs.Tables.{covered};
 ghost use Rattle.servers.specs.Servers.{view, sees, latest_visible, latest_covered, tidied_up};
@@ -8,22 +7,22 @@ ghost use Rattle.servers.specs.Servers.{view, sees, latest_visible, latest_cover
 use super::Server;
 use crate::sight::{Covered, Visible};
 use crate::version::Version;
-use marks::mark_kind::MarkKind;
 use stamps::clock_rule::ClockRule;
+use stamps::mark_kind::MarkKind;
 use stamps::site::Site;
 
 impl<C: ClockRule, K: MarkKind> Server<C, K> {
     // The site that it stands at.
     pub fn site(&self) -> Site
-        ensures { result.number ≡ (view self.now).site }
+        ensures { result ≡ (view self.now).site }
     {
         self.outbox.own()
     }
 
     // The latest version of a key that is local or that the stable mark covers.
     pub fn latest_visible(&self, key: u16) -> Option<Version>
-        ensures value { shown result ≡ latest_visible K.MarkKind.kind (view self.now) key }
-        ensures law { IsLatest (sees K.MarkKind.kind (view self.now)) key (view self.now).held (shown result) }
+        ensures value { result ≡ latest_visible K.MarkKind.kind (view self.now) key }
+        ensures law { IsLatest (sees K.MarkKind.kind (view self.now)) key (view self.now).held result }
     {
         let sight = Visible::<K> {
             site: self.outbox.own(),
@@ -34,8 +33,8 @@ impl<C: ClockRule, K: MarkKind> Server<C, K> {
 
     // The latest version of a key that a cut covers.
     pub fn latest_covered(&self, key: u16, cut: K::Mark) -> Option<Version>
-        ensures value { shown result ≡ latest_covered K.MarkKind.kind (view self.now) key (K.MarkKind.meaning cut) }
-        ensures law { IsLatest (covered K.MarkKind.kind (K.MarkKind.meaning cut)) key (view self.now).held (shown result) }
+        ensures value { result ≡ latest_covered K.MarkKind.kind (view self.now) key (K.MarkKind.meaning cut) }
+        ensures law { IsLatest (covered K.MarkKind.kind (K.MarkKind.meaning cut)) key (view self.now).held result }
     {
         let sight = Covered::<K> { cut };
         self.table.latest(key, &sight)

@@ -1,6 +1,6 @@
 // How a count of sites is made and read.
-ghost use Rattle.std.specs.Prelude.{◌≡◌};
-ghost use Rattle.servers.specs.SiteCounts.{count_of, checked_count};
+ghost use Rattle.std.specs.Prelude.{◌≡◌, ◌≤◌};
+ghost use Rattle.servers.specs.SiteCounts.{checked_count};
 
 use super::SiteCount;
 use stamps::refusal::Refusal;
@@ -9,7 +9,7 @@ use stamps::refusal::Refusal;
 impl TryFrom<u8> for SiteCount {
     type Error = Refusal;
 
-    ghost try_from_gives = { λ number count. count_of count ≡ checked_count number };
+    ghost try_from_gives = { λ number count. count ≡ checked_count number };
 
     fn try_from(number: u8) -> Result<SiteCount, Refusal> {
         if number < 2 || number > 4 {
@@ -21,7 +21,8 @@ impl TryFrom<u8> for SiteCount {
 
 impl SiteCount {
     pub fn number(self) -> u8
-        ensures { result ≡ self.number }
+        ensures value { result ≡ self }
+        ensures few { result ≤ 4 }
     {
         self.number
     }

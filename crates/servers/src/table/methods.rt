@@ -1,15 +1,14 @@
 // The methods of `VersionTable`.
 ghost use Rattle.std.specs.Prelude.{◌≡◌, []};
-ghost use Rattle.servers.specs.Versions.{plain};
 ghost use Rattle.servers.specs.Tables.{latest as latest_of, table_full, kept_if_room, tidying};
-ghost use Rattle.servers.specs.Held.{held, shown};
+ghost use Rattle.servers.specs.Held.{held};
 ghost use Rattle.servers.specs.Laws.{IsLatest, IsTidied};
 
 use super::{Needed, VersionTable};
 use crate::sight::Sight;
 use crate::version::Version;
 use fixed_vec::FixedVec;
-use marks::mark_kind::MarkKind;
+use stamps::mark_kind::MarkKind;
 
 impl VersionTable {
     pub(crate) fn new(filler: Version) -> VersionTable
@@ -27,10 +26,10 @@ impl VersionTable {
     }
 
     // One version more, at the end; a full table stays as it is.
-    pub(crate) fn keep(&mut self, version: Version)
-        ensures { held self.new ≡ kept_if_room (held self.old) (plain version) }
+    pub(crate) fn keep(&mut self, version: &Version)
+        ensures { held self.new ≡ kept_if_room (held self.old) version.now }
     {
-        let _ = self.versions.push(version);
+        let _ = self.versions.push(*version);
     }
 
     // Drops every version that has a later one of its key that the safe mark covers, and answers how many.
@@ -49,8 +48,8 @@ impl VersionTable {
 
     // The latest version of a key that is shown. The search keeps its place, and copies one version at the end.
     pub(crate) fn latest<S: Sight>(&self, key: u16, sight: &S) -> Option<Version>
-        ensures value { shown result ≡ latest_of (S.Sight.shows sight.now) key (held self.now) }
-        ensures law { IsLatest (S.Sight.shows sight.now) key (held self.now) (shown result) }
+        ensures value { result ≡ latest_of (S.Sight.shows sight.now) key (held self.now) }
+        ensures law { IsLatest (S.Sight.shows sight.now) key (held self.now) result }
     {
         let versions = self.versions.as_slice();
         let mut found = None;

@@ -1,12 +1,10 @@
 // Which versions tidying keeps.
-ghost use Rattle.std.specs.Prelude.{◌≡◌, not, map};
-ghost use Rattle.fixed_vec.specs.Items.{items};
-ghost use Rattle.servers.specs.Versions.{plain};
+ghost use Rattle.std.specs.Prelude.{◌≡◌, not};
 ghost use Rattle.servers.specs.Tables.{outdated, outdated_by};
 
 use crate::version::Version;
 use fixed_vec::Keeps;
-use marks::mark_kind::MarkKind;
+use stamps::mark_kind::MarkKind;
 
 // The versions as they were before tidying, and the safe mark.
 #[derive(Drop)]
@@ -16,7 +14,7 @@ pub(crate) struct Needed<'a, K: MarkKind> {
 }
 
 impl<'a, K: MarkKind> Keeps<Version> for Needed<'a, K> {
-    ghost keeps = { λ s v. not (outdated K.MarkKind.kind (K.MarkKind.meaning s.safe) (map plain s.versions.now) (plain v)) };
+    ghost keeps = { λ s v. not (outdated K.MarkKind.kind (K.MarkKind.meaning s.safe) s.versions.now v) };
 
     fn keeps(&self, item: &Version) -> bool {
         !self.is_outdated(item)
@@ -26,14 +24,14 @@ impl<'a, K: MarkKind> Keeps<Version> for Needed<'a, K> {
 impl<'a, K: MarkKind> Needed<'a, K> {
     // Whether a version of the table replaces the item.
     fn is_outdated(&self, item: &Version) -> bool
-        ensures { result ≡ outdated K.MarkKind.kind (K.MarkKind.meaning self.now.safe) (map plain self.now.versions.now) (plain item.now) }
+        ensures { result ≡ outdated K.MarkKind.kind (K.MarkKind.meaning self.now.safe) self.now.versions.now item.now }
     {
         self.versions.iter().any(|other| self.replaces(other, item))
     }
 
     // Whether `other` is a later version of the item's key that the safe mark covers.
     fn replaces(&self, other: &Version, item: &Version) -> bool
-        ensures { result ≡ outdated_by K.MarkKind.kind (K.MarkKind.meaning self.now.safe) (plain item.now) (plain other.now) }
+        ensures { result ≡ outdated_by K.MarkKind.kind (K.MarkKind.meaning self.now.safe) item.now other.now }
     {
         other.key == item.key
             && other.is_later(item)

@@ -1,6 +1,6 @@
 // How a reading is made and read.
-ghost use Rattle.std.specs.Prelude.{◌≡◌};
-ghost use Rattle.stamps.specs.Checks.{reading_number, checked_reading};
+ghost use Rattle.std.specs.Prelude.{◌≡◌, ◌^◌, ◌<◌};
+ghost use Rattle.stamps.specs.Checks.{checked_reading};
 
 use super::Reading;
 use crate::refusal::Refusal;
@@ -9,7 +9,7 @@ use crate::refusal::Refusal;
 impl TryFrom<u64> for Reading {
     type Error = Refusal;
 
-    ghost try_from_gives = { λ time reading. reading_number reading ≡ checked_reading time };
+    ghost try_from_gives = { λ time reading. reading ≡ checked_reading time };
 
     fn try_from(time: u64) -> Result<Reading, Refusal> {
         if time >= 1 << 47 {
@@ -22,13 +22,14 @@ impl TryFrom<u64> for Reading {
 impl Reading {
     // What a clock shows before it was told a time.
     pub fn zero() -> Reading
-        ensures { result.time ≡ 0 }
+        ensures { result ≡ 0 }
     {
         Reading { time: 0 }
     }
 
     pub fn time(self) -> u64
-        ensures { result ≡ self.time }
+        ensures value { result ≡ self }
+        ensures below { result < 2 ^ 47 }
     {
         self.time
     }

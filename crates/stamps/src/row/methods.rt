@@ -1,7 +1,7 @@
 // How rows are made, read, compared and combined.
 ghost use Rattle.std.specs.Prelude.{◌≡◌};
-ghost use Rattle.stamps.specs.Rows.{four, row_of, at, same, only, with_entry, covers, join, meet, greatest, least};
-ghost use Rattle.stamps.specs.Checks.{row_numbers, checked_row};
+ghost use Rattle.stamps.specs.Rows.{listed, row_of, at, same, only, with_entry, covers, join, meet, greatest, least};
+ghost use Rattle.stamps.specs.Checks.{checked_row};
 
 use super::Row;
 use crate::refusal::Refusal;
@@ -12,7 +12,7 @@ use crate::stamp::Stamp;
 impl TryFrom<[u64; 4]> for Row {
     type Error = Refusal;
 
-    ghost try_from_gives = { λ entries row. row_numbers row ≡ checked_row entries };
+    ghost try_from_gives = { λ entries row. row ≡ checked_row entries };
 
     fn try_from(entries: [u64; 4]) -> Result<Row, Refusal> {
         let [a, b, c, d] = entries;
@@ -28,7 +28,7 @@ impl TryFrom<[u64; 4]> for Row {
 impl Row {
     // The row of four stamps, by site number.
     pub fn of(a: Stamp, b: Stamp, c: Stamp, d: Stamp) -> Row
-        ensures { four result.entries ≡ row_of a.value b.value c.value d.value }
+        ensures { result ≡ row_of a b c d }
     {
         Row {
             entries: [a.value, b.value, c.value, d.value],
@@ -37,7 +37,7 @@ impl Row {
 
     // The row with this stamp at each site.
     pub fn same(stamp: Stamp) -> Row
-        ensures { four result.entries ≡ same stamp.value }
+        ensures { result ≡ same stamp }
     {
         Row {
             entries: [stamp.value; 4],
@@ -46,21 +46,21 @@ impl Row {
 
     // The row with this stamp at one site and 0.0 at the others.
     pub fn only(site: Site, stamp: Stamp) -> Row
-        ensures { four result.entries ≡ only site.number stamp.value }
+        ensures { result ≡ only site stamp }
     {
         Row::same(Stamp::zero()).with_entry(site, stamp)
     }
 
     // The four entries as plain numbers.
     pub fn entries(&self) -> [u64; 4]
-        ensures { result ≡ self.now.entries }
+        ensures { result ≡ listed self.now }
     {
         self.entries
     }
 
     // The entry of a site.
     pub fn at(&self, site: Site) -> Stamp
-        ensures { result.value ≡ at (four self.now.entries) site.number }
+        ensures { result ≡ at self.now site }
     {
         Stamp {
             value: self.entries[site.number as usize],
@@ -69,7 +69,7 @@ impl Row {
 
     // The row with another stamp at one site.
     pub fn with_entry(&self, site: Site, stamp: Stamp) -> Row
-        ensures { four result.entries ≡ with_entry (four self.now.entries) site.number stamp.value }
+        ensures { result ≡ with_entry self.now site stamp }
     {
         let mut entries = self.entries;
         entries[site.number as usize] = stamp.value;
@@ -78,7 +78,7 @@ impl Row {
 
     // Whether each entry is at least the other's.
     pub fn covers(&self, other: &Row) -> bool
-        ensures { result ≡ covers (four self.now.entries) (four other.now.entries) }
+        ensures { result ≡ covers self.now other.now }
     {
         let [a, b, c, d] = self.entries;
         let [e, f, g, h] = other.entries;
@@ -88,7 +88,7 @@ impl Row {
     // The greater at each entry. Like the lesser it is written out: a function of the choice between two numbers would owe
     // more clauses than both.
     pub fn join(&self, other: &Row) -> Row
-        ensures { four result.entries ≡ join (four self.now.entries) (four other.now.entries) }
+        ensures { result ≡ join self.now other.now }
     {
         let [a, b, c, d] = self.entries;
         let [e, f, g, h] = other.entries;
@@ -99,7 +99,7 @@ impl Row {
 
     // The lesser at each entry.
     pub fn meet(&self, other: &Row) -> Row
-        ensures { four result.entries ≡ meet (four self.now.entries) (four other.now.entries) }
+        ensures { result ≡ meet self.now other.now }
     {
         let [a, b, c, d] = self.entries;
         let [e, f, g, h] = other.entries;
@@ -110,7 +110,7 @@ impl Row {
 
     // The greatest of the four entries.
     pub fn greatest(&self) -> Stamp
-        ensures { result.value ≡ greatest (four self.now.entries) }
+        ensures { result ≡ greatest self.now }
     {
         let mut best = 0;
         for entry in &self.entries {
@@ -121,7 +121,7 @@ impl Row {
 
     // The least of the four entries.
     pub fn least(&self) -> Stamp
-        ensures { result.value ≡ least (four self.now.entries) }
+        ensures { result ≡ least self.now }
     {
         let [a, b, c, d] = self.entries;
         Stamp {

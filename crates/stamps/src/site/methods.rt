@@ -1,6 +1,6 @@
 // How a site number is made and read.
 ghost use Rattle.std.specs.Prelude.{◌≡◌};
-ghost use Rattle.stamps.specs.Checks.{site_number, checked_site};
+ghost use Rattle.stamps.specs.Checks.{checked_site};
 
 use super::Site;
 use crate::refusal::Refusal;
@@ -9,7 +9,7 @@ use crate::refusal::Refusal;
 impl TryFrom<u8> for Site {
     type Error = Refusal;
 
-    ghost try_from_gives = { λ number site. site_number site ≡ checked_site number };
+    ghost try_from_gives = { λ number site. site ≡ checked_site number };
 
     fn try_from(number: u8) -> Result<Site, Refusal> {
         if number >= 4 {
@@ -21,7 +21,7 @@ impl TryFrom<u8> for Site {
 
 impl Site {
     pub fn number(self) -> u8
-        ensures { result ≡ self.number }
+        ensures { result ≡ self }
     {
         self.number
     }

@@ -1,7 +1,7 @@
 // How a stamp is made and taken apart.
 ghost use Rattle.std.specs.Prelude.{◌≡◌, ◌^◌, ◌<◌};
 ghost use Rattle.stamps.specs.Stamps.{top_stamp, stamp_of, time_of, count_of};
-ghost use Rattle.stamps.specs.Checks.{stamp_number, checked_stamp};
+ghost use Rattle.stamps.specs.Checks.{checked_stamp};
 
 use super::Stamp;
 use crate::refusal::Refusal;
@@ -13,7 +13,7 @@ pub(crate) const COUNTS: u64 = 65_536;
 impl TryFrom<u64> for Stamp {
     type Error = Refusal;
 
-    ghost try_from_gives = { λ value stamp. stamp_number stamp ≡ checked_stamp value };
+    ghost try_from_gives = { λ value stamp. stamp ≡ checked_stamp value };
 
     fn try_from(value: u64) -> Result<Stamp, Refusal> {
         if value >= 1 << 63 {
@@ -26,7 +26,7 @@ impl TryFrom<u64> for Stamp {
 impl Stamp {
     pub(crate) fn of(time: u64, count: u64) -> Stamp
         requires { stamp_of time count < 2 ^ 63 }
-        ensures { result.value ≡ stamp_of time count }
+        ensures { result ≡ stamp_of time count }
     {
         Stamp {
             value: time * COUNTS + count,
@@ -35,14 +35,14 @@ impl Stamp {
 
     // The stamp 0.0, below which there is none.
     pub fn zero() -> Stamp
-        ensures { result.value ≡ 0 }
+        ensures { result ≡ 0 }
     {
         Stamp { value: 0 }
     }
 
     // The top stamp, above which there is none.
     pub fn top() -> Stamp
-        ensures { result.value ≡ top_stamp }
+        ensures { result ≡ top_stamp }
     {
         Stamp {
             value: (1 << 63) - 1,
@@ -50,19 +50,20 @@ impl Stamp {
     }
 
     pub fn value(self) -> u64
-        ensures { result ≡ self.value }
+        ensures { result ≡ self }
     {
         self.value
     }
 
     pub fn time(self) -> u64
-        ensures { result ≡ time_of self.value }
+        ensures value { result ≡ time_of self }
+        ensures below { result < 2 ^ 47 }
     {
         self.value / COUNTS
     }
 
     pub fn count(self) -> u64
-        ensures { result ≡ count_of self.value }
+        ensures { result ≡ count_of self }
     {
         self.value % COUNTS
     }

@@ -1,4 +1,4 @@
-use Rattle.commands.proofs.Shorter.{read_shorter}
+use Rattle.script.proofs.Shorter.{read_shorter}
 use Rattle.script.proofs.list.rest_after.Goals as goal
 
 pub returns-in-Ok-clause-shorter : goal.returns-in-Ok-clause-shorter

@@ -1,23 +1,6 @@
-use Rattle.std.proofs.Common.{option_map, Ok, sym, ◌∙◌}
-use Rattle.servers.specs.Held.{shown}
-use Rattle.servers.specs.Servers.{view as server_view}
-use Rattle.model.specs.Groups.{session_at}
-use Rattle.group.specs.Answers.{shown_state}
-use Rattle.group.specs.Groups.{view}
-use Rattle.group.proofs.Views.{at_numbers}
-use Rattle.group.proofs.Sessions.{gets}
+use Rattle.group.specs.Model.Events.{get}
+use Rattle.group.proofs.Model.Reached.{still_reached}
 use Rattle.group.proofs.group.Group.get.Goals as goal
 
-pub returns : goal.returns
-returns g c =
-    let mid = view c.learn-place.new.self in
-    let k = g.K.MarkKind.kind in
-    let p = c.partition_of-partition.result.number in
-    record {
-      step =
-          gets k (view c.args.self.now) mid (view c.show.new.self) c.args.session c.args.key p (server_view c.server.result.now) (shown c.latest_visible-found.result)
-          (Ok (option_map shown_state c.show.result)) (sym c.if-not-has_session.ensures) c.partition_of-partition.ensures c.learn-place.ensures.state
-          (c.server.ensures ∙ at_numbers mid c.learn-place.result (session_at (view c.args.self.now) c.args.session).site p c.learn-place.ensures.place)
-          c.latest_visible-found.ensures.value c.show.ensures;
-      keeps = tt;
-    }
+pub invariant_of-self : goal.invariant_of-self
+invariant_of-self g c = record { reached = still_reached (get c.args.session c.args.key) c.get.ensures.step c.args.self.now.reached }

@@ -1,10 +1,6 @@
-use Rattle.std.proofs.Common.{Ok, ap, arith}
-use Rattle.servers.specs.Servers.{reporting}
-use Rattle.group.proofs.Views.{rest_of, on_server_lem}
+use Rattle.group.specs.Model.Events.{report}
+use Rattle.group.proofs.Model.Reached.{still_reached}
 use Rattle.group.proofs.group.Group.report.Goals as goal
 
-pub returns-clause-step : goal.returns-clause-step
-returns-clause-step g c =
-    let self = c.args.self.now in
-    on_server_lem (rest_of self) self.servers c.args.site c.args.partition c.in_ok-place.place c.index.result c.index-self-index.result c.report.new.self (Ok tt)
-    (λ s. (Ok tt, reporting g.K.MarkKind.kind s)) c.in_ok-place.ensures (omega arith) c.index.ensures (ap (λ s. (Ok tt, s)) c.report.ensures) tt
+pub invariant_of-self : goal.invariant_of-self
+invariant_of-self g c = record { reached = still_reached (report c.args.site c.args.partition) c.report.ensures.step c.args.self.now.reached }

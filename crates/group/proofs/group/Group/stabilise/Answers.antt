@@ -1,29 +1,6 @@
-use Rattle.std.proofs.Common.{Ok, ap, ◌∙◌, rules}
-use Rattle.stamps.specs.Rows.{Four}
-use Rattle.fixed_vec.specs.Items.{items}
-use Rattle.marks.specs.CommonFloors.{common_floor, numbers}
-use Rattle.model.specs.Groups.{reported_at}
-use Rattle.servers.specs.Servers.{raised}
-use Rattle.model.specs.Calls.{has_server}
-use Rattle.group.specs.Layouts.{numbers_of}
-use Rattle.group.specs.Groups.{called_at, view}
-use Rattle.group.proofs.Views.{by_numbers, on_place, passed}
-use Rattle.group.proofs.Rows.{rows_lem}
+use Rattle.group.specs.Model.Events.{stabilise}
+use Rattle.group.proofs.Model.Reached.{still_reached}
 use Rattle.group.proofs.group.Group.stabilise.Goals as goal
 
-pub returns-clause-step : goal.returns-clause-step
-returns-clause-step g c =
-    let before = view c.args.self.now in
-    let place = c.in_ok-place.place in
-    let k = g.K.MarkKind.kind in
-    let is = passed (has_server before c.args.site c.args.partition) (numbers_of place) (c.args.site, c.args.partition) c.in_ok-place.ensures in
-    let rows =
-    rows_lem _ (λ s. s.marks.reported) (before.server place.site.number) before.partitions (items c.rows_of-rows.result) (λ s row given. search rules) c.rows_of-rows.ensures
-    in
-    let floor =
-    c.common_floor-floor.ensures.value ∙ ap (λ rows. common_floor k (numbers rows)) c.as_slice.ensures ∙ ap (common_floor k) rows
-    ∙ by_numbers (λ site partition. common_floor k (reported_at before site)) c.args.site c.args.partition place is.1
-    in
-    ap (λ t. (Ok tt, t)) c.raise.ensures
-    ∙ ap (λ (mark : Four). called_at before place (λ s. (Ok tt, raised k s mark))) floor
-    ∙ on_place before c.args.site c.args.partition place (λ s. (Ok tt, raised k s (common_floor k (reported_at before c.args.site)))) c.in_ok-place.ensures
+pub invariant_of-self : goal.invariant_of-self
+invariant_of-self g c = record { reached = still_reached (stabilise c.args.site c.args.partition) c.stabilise.ensures.step c.args.self.now.reached }

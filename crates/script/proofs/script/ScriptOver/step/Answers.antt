@@ -1,5 +1,5 @@
 use Rattle.std.proofs.Common.{arith}
-use Rattle.commands.proofs.Shorter.{read_shorter}
+use Rattle.script.proofs.Shorter.{read_shorter}
 use Rattle.script.proofs.script.ScriptOver.step.Goals as goal
 
 pub invariant_of-self : goal.invariant_of-self

@@ -1,12 +1,10 @@
-use Rattle.std.proofs.Common.{◌≡◌, false, ltb, List, [], ◌∷◌, ◌++◌, map, length, Ok, Err, Result, sym, refl, ap, ◌∙◌, subst, arith}
-use Rattle.std.proofs.lemmas.List.{length-append, length-map, map-append}
+use Rattle.std.proofs.Common.{◌≡◌, false, ltb, List, [], ◌∷◌, ◌++◌, length, Ok, Err, Result, sym, refl, ap, ◌∙◌, subst, arith}
+use Rattle.std.proofs.lemmas.List.{length-append}
 use Rattle.std.proofs.lemmas.Bool.{cond-false, cond-true, leb-false, lt-ltb}
 use Rattle.fixed_vec.specs.Items.{items, pushed}
 use Rattle.fixed_vec.specs.declared.fixed_vec.FixedVec.{FixedVec}
 use Rattle.fixed_vec.specs.declared.fixed_vec.Full.{Full}
 use Rattle.stamps.specs.Rows.{greatest}
-use Rattle.servers.specs.Counting.{counts}
-use Rattle.servers.specs.Entries.{sent}
 use Rattle.servers.specs.Lefts.{OthersOnly}
 use Rattle.servers.specs.Outboxes.{issued, last_for, outbox_full, waiting}
 use Rattle.servers.specs.declared.entry.Entry.{Entry}
@@ -16,24 +14,24 @@ use Rattle.servers.proofs.outbox.Outbox.issue.Goals as goal
 
 -- there is room, so the entry stands at the end
 appended : (o : Outbox) (entry : Entry) (r : Result (Unit {0}) Full) (after : FixedVec Entry 16)
-    → false ≡ outbox_full o.peers.own.number o.peers.sites.number (waiting o) → (r, items after) ≡ pushed 16 (items o.entries) entry
+    → false ≡ outbox_full o.peers.own o.peers.sites (waiting o) → (r, items after) ≡ pushed 16 (items o.entries) entry
     → items after ≡ items o.entries ++ entry ∷ []
 appended o entry r after room push =
     let es = items o.entries in
-    let long = length-map es sent in
-    let full = full_is o.peers.own.number o.peers.sites.number (map sent es) (counts o.left) o.others (o.needed ∙ sym long) in
-    let less = leb-false 16 (length (map sent es)) (full ∙ sym room) in
+    let full = full_is o.peers.own o.peers.sites es o.left o.others o.needed in
+    let less = leb-false 16 (length es) (full ∙ sym room) in
     ap (λ (p : Result (Unit {0}) Full × List Entry). p.1) (push ∙ cond-true (ltb (length es) 16) (Ok tt, es ++ entry ∷ []) (Err (record {}), es) (lt-ltb (length es) 16 (omega arith)))
 
 pub invariant_of-self : goal.invariant_of-self
 invariant_of-self c =
     let o = c.args.self.now in
     let n = length (items o.entries) in
-    let after = issue_counts o.peers.own.number o.peers.sites.number (counts o.left) n (omega arith) o.others o.needed in
+    let after = issue_counts o.peers.own o.peers.sites o.left n o.sites.0 o.others o.needed in
     let items_are = appended o c.args.entry c.push.result c.push.new.self c.if-is_full.ensures c.push.ensures in
     let long = ap length items_are ∙ length-append (items o.entries) (c.args.entry ∷ []) in
     record {
-      others = subst (OthersOnly o.peers.own.number o.peers.sites.number) (sym c.one_more-self.ensures) after.0;
+      sites = o.sites;
+      others = subst (OthersOnly o.peers.own o.peers.sites) (sym c.one_more-self.ensures) after.0;
       needed = ap greatest c.one_more-self.ensures ∙ after.1 ∙ sym long;
     }
 
@@ -42,16 +40,14 @@ returns c =
     let o = c.args.self.now in
     let es = items o.entries in
     let items_are = appended o c.args.entry c.push.result c.push.new.self c.if-is_full.ensures c.push.ensures in
-    let own = o.peers.own.number in
-    let sites = o.peers.sites.number in
-    let left = counts o.left in
-    let e = sent c.args.entry in
+    let own = o.peers.own in
+    let sites = o.peers.sites in
+    let e = c.args.entry in
     record {
       queues =
-          ap (λ xs. last_for (map sent xs) (counts c.one_more-self.result)) items_are
-          ∙ ap (λ ys. last_for ys (counts c.one_more-self.result)) (map-append sent es (c.args.entry ∷ []))
-          ∙ ap (last_for (map sent es ++ e ∷ [])) c.one_more-self.ensures
-          ∙ issue_queues own sites (map sent es) e left (omega arith) o.others (o.needed ∙ sym (length-map es sent))
+          ap (λ xs. last_for xs c.one_more-self.result) items_are
+          ∙ ap (last_for (es ++ e ∷ [])) c.one_more-self.ensures
+          ∙ issue_queues own sites es e o.left o.sites.1 o.others o.needed
           ∙ sym (cond-false (outbox_full own sites (waiting o)) (waiting o) (issued own sites (waiting o) e) (sym c.if-is_full.ensures));
       peers = refl;
     }

@@ -3,4 +3,4 @@ use Rattle.servers.proofs.Rising.{rising_law}
 use Rattle.servers.proofs.server.makes.stamps_rise.Goals as goal
 
 pub returns : goal.returns
-returns g c = rising_law g.C.ClockRule.answer g.met.C.ClockRule.lawful g.K.MarkKind.kind c.args.site.number (omega arith) c.args.sites.number
+returns g c = rising_law g.C.ClockRule.answer g.met.C.ClockRule.lawful g.K.MarkKind.kind c.args.site (omega arith) c.args.sites

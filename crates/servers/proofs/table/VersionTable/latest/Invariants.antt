@@ -1,5 +1,4 @@
-use Rattle.std.proofs.Common.{◌≡◌, map, length, drop}
-use Rattle.servers.specs.Versions.{plain}
+use Rattle.std.proofs.Common.{◌≡◌, length, drop}
 use Rattle.servers.specs.Tables.{latest, latest_from}
 use Rattle.servers.proofs.Seeking.{standing, within, nothing}
 use Rattle.servers.proofs.table.VersionTable.latest.Given as goal
@@ -8,6 +7,6 @@ use Rattle.servers.proofs.table.VersionTable.latest.Given as goal
 abbrev pub invariant-loop-i : goal.invariant-loop-i
 invariant-loop-i g l =
     let shows = g.S.Sight.shows l.sight in
-    let vs = map plain l.versions in
+    let vs = l.versions in
     within l.found (length l.versions)
     × (latest_from shows l.key (standing nothing vs l.found) (drop l.i vs) ≡ latest shows l.key vs)

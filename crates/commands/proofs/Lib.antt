@@ -1,4 +1,0 @@
-pub mod Formed
-pub mod Shorter
-pub mod Numbers
-pub mod Written

@@ -1,3 +1,0 @@
-pub mod Commands
-pub mod Writing
-pub mod Laws

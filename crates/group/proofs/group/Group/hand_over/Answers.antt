@@ -1,9 +1,0 @@
-use Rattle.std.proofs.Common.{arith}
-use Rattle.servers.specs.Servers.{handing}
-use Rattle.group.proofs.Views.{rest_of, change_server_lem}
-use Rattle.group.proofs.group.Group.hand_over.Goals as goal
-
-pub returns : goal.returns
-returns g c =
-    let self = c.args.self.now in
-    change_server_lem (rest_of self) self.servers c.args.place c.index.result c.index-self-index.result c.hand_over.new.self (λ s. handing s c.args.to.number) (omega arith) c.index.ensures c.hand_over.ensures

@@ -1,8 +1,0 @@
-use Rattle.std.specs.Fn.{FnReturnsAt}
-use Rattle.fixed_vec.specs.Items.{items}
-use Rattle.group.specs.Groups.{view, RowsOf}
-use Rattle.group.proofs.group.Group.rows_of.Given as goal
-
--- the rows of the partitions so far
-abbrev pub invariant-loop-server : goal.invariant-loop-server
-invariant-loop-server g l = RowsOf (λ s r. FnReturnsAt g.F.Fn l.row_of s r) ((view l.self).server l.fn.site.number) l.server-index (items l.rows)

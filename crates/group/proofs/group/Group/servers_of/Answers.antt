@@ -1,8 +1,0 @@
-use Rattle.std.proofs.Common.{arith}
-use Rattle.group.proofs.Views.{quarter}
-use Rattle.group.proofs.group.Group.servers_of.Goals as goal
-
-pub returns : goal.returns
-returns g c =
-    let self = c.args.self.now in
-    quarter self.layout.sites.number self.servers c.args.site.number self.layout.partitions _ _ (omega arith) c.args.site.below self.layout.some_partitions.1 (omega (arith, c.index-first.ensures)) (omega (arith, c.partitions.ensures))

@@ -1,0 +1,53 @@
+use Rattle.std.proofs.Common.{◌≡◌, ◌+◌, ◌<◌, ◌≤◌, ◌++◌, None, length, get_or, drop, sym, ap, ◌∙◌, subst, arith, rules}
+use Rattle.fixed_vec.specs.Items.{items}
+use Rattle.fixed_vec.specs.declared.fixed_vec.FixedVec.{FixedVec}
+use Rattle.stamps.specs.declared.row.Row.{Row}
+use Rattle.group.specs.Model.Groups.{cuts_at, cuts_of, stable_at}
+use Rattle.group.specs.Parts.{view}
+use Rattle.group.specs.Sessions.{cut_in}
+use Rattle.group.proofs.Cuts.{cut_more, cut_none, seat_of_place}
+use Rattle.group.proofs.Rows.{length_first, length_pushed, rows_lem}
+use Rattle.group.proofs.group_parts.GroupParts.safe_rows.Goals as goal
+use Rattle.group.proofs.group_parts.GroupParts.safe_rows.Goals.{in-Some, in_default}
+
+pub loop-seat-init : goal.loop-seat-init
+loop-seat-init g c =
+    let before = view c.args.self.now in
+    let site = c.args.site in
+    let rows = items c.rows_of-rows.result in
+    let stable : rows ≡ stable_at before site =
+    rows_lem _ (λ s. s.marks.stable) (before.server site) before.partitions rows (λ s row given. search rules) c.rows_of-rows.ensures
+    in
+    let few : length rows ≤ 4 + 0 =
+    omega (arith, ap length stable, length_first (λ n. (before.server site n).marks.stable) before.partitions, c.args.self.now.layout.some_partitions.1)
+    in
+    (ap (λ t. t ++ cuts_at before site) stable, few)
+
+pub loop-seat-preserved : goal.loop-seat-preserved
+loop-seat-preserved g c =
+    let before = view c.args.self.now in
+    let site = c.args.site in
+    let seats = c.args.self.now.seats.places in
+    let i = c.loop-seat.seat-index in
+    let xs = items c.loop-seat.rows in
+    let all = stable_at before site ++ cuts_at before site in
+    let Collected : FixedVec Row 8 → Type 0 = λ rows. (items rows ++ cuts_of before site (drop (i + 1) seats) ≡ all) × (length (items rows) ≤ 4 + (i + 1)) in
+    let here : i < length seats = omega (arith, c.args.self.now.seats.sized, ap length c.as_slice-seat-items.ensures) in
+    let seat : get_or seats i None ≡ c.seat-item.result =
+    seat_of_place seats c.as_slice-seat-items.result.now i c.seat-item.result c.as_slice-seat-items.ensures c.seat-item.is (omega arith)
+    in
+    let few : length xs ≤ 4 + i = c.loop-seat.invariant.1 in
+    let four : length seats ≡ 4 = c.args.self.now.seats.sized in
+    let room : length xs < 8 = omega arith in
+    elim c.match-cut_of.branch [
+      | in-Some w ↦
+          let more = length_pushed 8 xs (items w.push.new.self) w.in-Some.cut w.push.result w.push.ensures room in
+          subst Collected (sym w.rows-is) (
+            cut_more before site seats i xs (items w.push.new.self) w.in-Some.cut w.push.result all here
+                (ap (cut_in before site) seat ∙ sym c.cut_of.ensures ∙ w.in-Some.is) w.push.ensures room c.loop-seat.invariant.0,
+            omega arith,
+          )
+      | in_default w ↦
+          subst Collected (sym w.rows-is)
+          (cut_none before site seats i xs all here (ap (cut_in before site) seat ∙ sym c.cut_of.ensures ∙ w.in_default.is) c.loop-seat.invariant.0, omega arith)
+    ]

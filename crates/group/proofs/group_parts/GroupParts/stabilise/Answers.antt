@@ -1,0 +1,29 @@
+use Rattle.std.proofs.Common.{ℕ, Ok, ap, ◌∙◌, rules}
+use Rattle.stamps.specs.Rows.{Four}
+use Rattle.fixed_vec.specs.Items.{items}
+use Rattle.stamps.specs.CommonFloors.{common_floor}
+use Rattle.group.specs.Model.Groups.{reported_at}
+use Rattle.servers.specs.Servers.{raised}
+use Rattle.group.specs.Model.Calls.{has_server}
+use Rattle.group.specs.Parts.{called_at, view}
+use Rattle.group.proofs.Views.{by_numbers, on_place, passed}
+use Rattle.group.proofs.Rows.{rows_lem}
+use Rattle.group.proofs.group_parts.GroupParts.stabilise.Goals as goal
+
+pub returns-clause-step : goal.returns-clause-step
+returns-clause-step g c =
+    let before = view c.args.self.now in
+    let place = c.in_ok-place.place in
+    let k = g.K.MarkKind.kind in
+    let site : ℕ × ℕ → ℕ = λ p. p.0 in
+    let is = passed (has_server before c.args.site c.args.partition) (place) (c.args.site, c.args.partition) c.in_ok-place.ensures in
+    let rows =
+    rows_lem _ (λ s. s.marks.reported) (before.server c.place-2.inside.site) before.partitions (items c.rows_of-rows.result) (λ s row given. search rules) c.rows_of-rows.ensures
+    in
+    let floor =
+    c.common_floor-floor.ensures.value ∙ ap (λ rows. common_floor k rows) c.as_slice.ensures ∙ ap (common_floor k) rows ∙ ap (λ n. common_floor k (reported_at before n)) (ap site c.place-2.view_is)
+    ∙ by_numbers (λ site partition. common_floor k (reported_at before site)) c.args.site c.args.partition place is.1
+    in
+    ap (λ t. (Ok tt, t)) c.raise.ensures
+    ∙ ap (λ (mark : Four). called_at before place (λ s. (Ok tt, raised k s mark))) floor
+    ∙ on_place before c.args.site c.args.partition place (λ s. (Ok tt, raised k s (common_floor k (reported_at before c.args.site)))) c.in_ok-place.ensures

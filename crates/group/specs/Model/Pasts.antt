@@ -1,0 +1,46 @@
+-- The past of a session and of a put, read from calls and answers only.
+use Rattle.std.specs.Prelude.{◌≡◌, ℕ, cond, ◌⊎◌, [], ◌∷◌, Some, None, Option, ◌==◌}
+use Rattle.group.specs.Model.Events.{Put, Shown, put_shown, session_opened, wrote, got, snapshot_opened, read_by, History}
+
+-- the site of a session: where it was opened
+abbrev pub site_of : History → ℕ → ℕ
+site_of [] session = 0
+site_of (session_opened i site ∷ h) session = cond (session == i) site (site_of h session)
+site_of (other ∷ h) session = site_of h session
+
+-- the session that opened the snapshot of a serial number
+abbrev pub reader_of : History → ℕ → ℕ
+reader_of [] serial = 0
+reader_of (snapshot_opened i ticket ∷ h) serial = cond (serial == ticket.serial) i (reader_of h serial)
+reader_of (other ∷ h) serial = reader_of h serial
+
+-- Whose past: a session's, or that of a put.
+pub data Who : Type 0 where
+  of_session : ℕ → Who
+  of_put : Put → Who
+
+-- a set of puts for each
+abbrev pub Pasts : Type 1
+Pasts = Who → Put → Type 0
+
+-- Session i put p: p stands in its past from now on, and what stood there before is the past of p.
+abbrev pub writing : Pasts → ℕ → Put → Pasts
+writing P i p (of_session j) q = P (of_session j) q ⊎ ((j ≡ i) × (q ≡ p))
+writing P i p (of_put r) q = P (of_put r) q ⊎ ((r ≡ p) × P (of_session i) q)
+
+-- Session i was shown p: p and its past stand in its past from now on.
+abbrev pub seeing : Pasts → ℕ → Put → Pasts
+seeing P i p (of_session j) q = P (of_session j) q ⊎ ((j ≡ i) × ((q ≡ p) ⊎ P (of_put p) q))
+seeing P i p (of_put r) q = P (of_put r) q
+
+-- the same with what is shown of a key; none has no past
+abbrev pub seeing_shown : Pasts → ℕ → ℕ → Option Shown → Pasts
+seeing_shown P i key None = P
+seeing_shown P i key (Some v) = seeing P i (put_shown key v)
+
+abbrev pub Past : History → Pasts
+Past [] w p = ⊥
+Past (wrote i key kind amount stamp ∷ h) w p = writing (Past h) i (record { key = key; stamp = stamp; source = site_of h i }) w p
+Past (got i key v ∷ h) w p = seeing_shown (Past h) i key v w p
+Past (read_by ticket key v ∷ h) w p = seeing_shown (Past h) (reader_of h ticket.serial) key v w p
+Past (other ∷ h) w p = Past h w p

@@ -1,0 +1,34 @@
+// The whole group: every server of every site, the sessions and the open snapshots.
+use crate::layout::Layout;
+use crate::seats::Seats;
+use crate::session::Session;
+use fixed_vec::FixedVec;
+use servers::server::Server;
+use stamps::clock_rule::ClockRule;
+use stamps::mark_kind::MarkKind;
+
+const MOST_SESSIONS: usize = 8;
+
+// Its calls take plain numbers, and refuse those that the layout lacks.
+//
+// The servers stand site by site, four to a site. Those outside the layout are never used.
+// One array, as a call of an element of an array of arrays gets no proof where the element has ghost fields.
+#[derive(Drop)]
+pub(crate) struct GroupParts<C: ClockRule, K: MarkKind> {
+    layout: Layout,
+    servers: [Server<C, K>; 16],
+    sessions: FixedVec<Session, MOST_SESSIONS>,
+    seats: Seats,
+    next_serial: u32,
+}
+
+mod clocks;
+mod delivery;
+mod entries;
+mod makes;
+mod parts;
+mod rows;
+mod sessions;
+mod snapshots;
+mod stability;
+mod tidying;

@@ -1,0 +1,40 @@
+// The calls on a server's clock.
+ghost use Rattle.std.specs.Prelude.{◌≡◌};
+ghost use Rattle.stamps.specs.Refusals.{RefusalKeeps};
+ghost use Rattle.group.specs.Model.Calls.{asked};
+ghost use Rattle.group.specs.Model.Events.{tell as Tell, heartbeat as Heartbeat, lead as Lead};
+ghost use Rattle.group.specs.Parts.{view};
+
+use super::GroupParts;
+use stamps::clock_rule::ClockRule;
+use stamps::mark_kind::MarkKind;
+use stamps::refusal::Refusal;
+use stamps::stamp::Stamp;
+
+impl<C: ClockRule, K: MarkKind> GroupParts<C, K> {
+    // The physical clock of a server shows a new time.
+    pub(crate) fn tell(&mut self, site: u8, partition: u8, time: u64) -> Result<(), Refusal>
+        ensures step { (result, view self.new) ≡ asked C.ClockRule.answer K.MarkKind.kind (view self.old) (Tell site partition time) }
+        ensures keeps { RefusalKeeps result (view self.old) (view self.new) }
+    {
+        let place = self.layout.place(site, partition)?;
+        self.servers[place.index()].tell(time)
+    }
+
+    // A new stamp of a server for the other sites.
+    pub(crate) fn heartbeat(&mut self, site: u8, partition: u8) -> Result<Stamp, Refusal>
+        ensures step { (result, view self.new) ≡ asked C.ClockRule.answer K.MarkKind.kind (view self.old) (Heartbeat site partition) }
+        ensures keeps { RefusalKeeps result (view self.old) (view self.new) }
+    {
+        let place = self.layout.place(site, partition)?;
+        self.servers[place.index()].heartbeat()
+    }
+
+    // How far a server's last stamp is ahead of its reading.
+    pub(crate) fn lead(&self, site: u8, partition: u8) -> Result<i64, Refusal>
+        ensures { (result, view self.now) ≡ asked C.ClockRule.answer K.MarkKind.kind (view self.now) (Lead site partition) }
+    {
+        let place = self.layout.place(site, partition)?;
+        Ok(self.server(place).lead())
+    }
+}

@@ -1,0 +1,36 @@
+// The calls that raise the reported and the stable marks.
+ghost use Rattle.std.specs.Prelude.{◌≡◌};
+ghost use Rattle.stamps.specs.Refusals.{RefusalKeeps};
+ghost use Rattle.group.specs.Model.Calls.{asked};
+ghost use Rattle.group.specs.Model.Events.{report as Report, stabilise as Stabilise};
+ghost use Rattle.group.specs.Parts.{view};
+
+use super::GroupParts;
+use stamps::clock_rule::ClockRule;
+use stamps::common_floor::common_floor;
+use stamps::mark_kind::MarkKind;
+use stamps::refusal::Refusal;
+
+impl<C: ClockRule, K: MarkKind> GroupParts<C, K> {
+    // A server tells its site how far it has received.
+    pub(crate) fn report(&mut self, site: u8, partition: u8) -> Result<(), Refusal>
+        ensures step { (result, view self.new) ≡ asked C.ClockRule.answer K.MarkKind.kind (view self.old) (Report site partition) }
+        ensures keeps { RefusalKeeps result (view self.old) (view self.new) }
+    {
+        let place = self.layout.place(site, partition)?;
+        self.servers[place.index()].report();
+        Ok(())
+    }
+
+    // What every server of a site has reported is joined into the stable mark of one of them.
+    pub(crate) fn stabilise(&mut self, site: u8, partition: u8) -> Result<(), Refusal>
+        ensures step { (result, view self.new) ≡ asked C.ClockRule.answer K.MarkKind.kind (view self.old) (Stabilise site partition) }
+        ensures keeps { RefusalKeeps result (view self.old) (view self.new) }
+    {
+        let place = self.layout.place(site, partition)?;
+        let rows = self.rows_of(place.site, |server| server.reported());
+        let floor = common_floor::<K>(rows.as_slice());
+        self.raise(place, floor);
+        Ok(())
+    }
+}

@@ -1,5 +1,0 @@
-use Rattle.std.proofs.Common.{refl}
-use Rattle.model.proofs.worked_case.compute_answers.Goals as goal
-
-pub returns : goal.returns
-returns c = refl

@@ -1,0 +1,12 @@
+-- A row gives its list of four back. The proof of a model's law has to stand in specs/.
+use Rattle.std.specs.Prelude.{◌≡◌, ℕ, List, [], ◌∷◌, length, refl}
+use Rattle.std.proofs.Common.{arith}
+use Rattle.stamps.specs.Rows.{four, listed}
+
+pub listed-four : (xs : List ℕ) → length xs ≡ 4 → listed (four xs) ≡ xs
+listed-four (a ∷ b ∷ c ∷ d ∷ []) h = refl
+listed-four [] h = absurd (omega arith)
+listed-four (a ∷ []) h = absurd (omega arith)
+listed-four (a ∷ b ∷ []) h = absurd (omega arith)
+listed-four (a ∷ b ∷ c ∷ []) h = absurd (omega arith)
+listed-four (a ∷ b ∷ c ∷ d ∷ e ∷ xs) h = absurd (omega arith)

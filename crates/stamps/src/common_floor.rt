@@ -1,0 +1,38 @@
+// The common floor of a run of rows, for every kind of mark.
+ghost use Rattle.std.specs.Prelude.{◌≡◌};
+ghost use Rattle.stamps.specs.Rows.{same};
+ghost use Rattle.stamps.specs.Stamps.{top_stamp};
+ghost use Rattle.stamps.specs.CommonFloors.{common_floor, GreatestCommon};
+
+use crate::mark_kind::MarkKind;
+use crate::row::Row;
+use crate::stamp::Stamp;
+
+// The greatest mark that every row of the run covers; of no rows, the top stamp at each entry.
+// Each row is taken as a mark by the kind's floor.
+pub fn common_floor<K: MarkKind>(rows: &[Row]) -> K::Mark
+    ensures value { K.MarkKind.meaning result ≡ common_floor K.MarkKind.kind rows.now }
+    ensures greatest { GreatestCommon K.MarkKind.kind rows.now (K.MarkKind.meaning result) }
+{
+    lowered::<K>(top_mark::<K>(), rows)
+}
+
+// The greatest mark: the top stamp at each entry.
+fn top_mark<K: MarkKind>() -> K::Mark
+    ensures { K.MarkKind.meaning result ≡ same top_stamp }
+{
+    K::floor(Row::same(Stamp::top()))
+}
+
+// The greatest mark, lowered by each row of the run.
+fn lowered<K: MarkKind>(top: K::Mark, rows: &[Row]) -> K::Mark
+    requires { K.MarkKind.meaning top ≡ same top_stamp }
+    ensures value { K.MarkKind.meaning result ≡ common_floor K.MarkKind.kind rows.now }
+    ensures greatest { GreatestCommon K.MarkKind.kind rows.now (K.MarkKind.meaning result) }
+{
+    let mut mark = top;
+    for row in rows {
+        mark = K::meet(mark, K::floor(*row));
+    }
+    mark
+}
