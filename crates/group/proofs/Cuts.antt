@@ -6,14 +6,14 @@ use Rattle.std.specs.List.{position_or_len}
 use Rattle.std.specs.Option.{is_none}
 use Rattle.fixed_vec.specs.Items.{pushed}
 use Rattle.fixed_vec.specs.declared.fixed_vec.Full.{Full}
-use Rattle.stamps.specs.Rows.{Four}
+use Rattle.stamps.specs.Rows.{PerSite}
 use Rattle.stamps.specs.declared.row.Row.{Row}
 use Rattle.group.specs.Model.Groups.{GroupState, SeatState, cuts_of, lowest_free, session_at}
 use Rattle.group.specs.Sessions.{cut_in, free_seat}
 use Rattle.group.proofs.Rows.{pushed_room}
 
 -- a seat with a cut of the site
-cuts_some : (g : GroupState) (site : ℕ) (o : Option SeatState) (ys : List (Option SeatState)) (cut : Four) → cut_in g site o ≡ Some cut → cuts_of g site (o ∷ ys) ≡ cut ∷ cuts_of g site ys
+cuts_some : (g : GroupState) (site : ℕ) (o : Option SeatState) (ys : List (Option SeatState)) (cut : PerSite) → cut_in g site o ≡ Some cut → cuts_of g site (o ∷ ys) ≡ cut ∷ cuts_of g site ys
 cuts_some g site None ys cut e = cc
 cuts_some g site (Some y) ys cut e = by_test (eqb (session_at g y.session).site site) e
   where
@@ -31,7 +31,7 @@ cuts_none g site (Some y) ys e = by_test (eqb (session_at g y.session).site site
     by_test false h = refl
 
 -- a cut is pushed
-pub cut_more : (g : GroupState) (site : ℕ) (seats : List (Option SeatState)) (i : ℕ) (xs ys : List Row) (x : Row) (r : Result (Unit {0}) Full) (all : List Four)
+pub cut_more : (g : GroupState) (site : ℕ) (seats : List (Option SeatState)) (i : ℕ) (xs ys : List Row) (x : Row) (r : Result (Unit {0}) Full) (all : List PerSite)
     → i < length seats → cut_in g site (get_or seats i None) ≡ Some x → (r, ys) ≡ pushed 8 xs x → length xs < 8
     → xs ++ cuts_of g site (drop i seats) ≡ all → ys ++ cuts_of g site (drop (i + 1) seats) ≡ all
 cut_more g site seats i xs ys x r all here cut push room before =
@@ -44,7 +44,7 @@ cut_more g site seats i xs ys x r all here cut push room before =
     ∙ ap (λ t. xs ++ t) (sym now) ∙ before
 
 -- nothing is pushed
-pub cut_none : (g : GroupState) (site : ℕ) (seats : List (Option SeatState)) (i : ℕ) (xs : List Row) (all : List Four)
+pub cut_none : (g : GroupState) (site : ℕ) (seats : List (Option SeatState)) (i : ℕ) (xs : List Row) (all : List PerSite)
     → i < length seats → cut_in g site (get_or seats i None) ≡ None
     → xs ++ cuts_of g site (drop i seats) ≡ all → xs ++ cuts_of g site (drop (i + 1) seats) ≡ all
 cut_none g site seats i xs all here cut before =

@@ -5,7 +5,7 @@ use Rattle.fixed_vec.specs.Items.{pushed}
 use Rattle.fixed_vec.specs.declared.fixed_vec.Full.{Full}
 use Rattle.servers.specs.Servers.{ServerState, view as server_view}
 use Rattle.servers.specs.declared.server.Server.{Server}
-use Rattle.stamps.specs.Rows.{Four}
+use Rattle.stamps.specs.Rows.{PerSite}
 use Rattle.stamps.specs.declared.row.Row.{Row}
 use Rattle.group.specs.Model.Groups.{tabulate}
 use Rattle.group.specs.Parts.{RowsOf}
@@ -38,7 +38,7 @@ rows_more gives server n xs ys s row r e room before at given =
     subst (λ m. RowsOf gives server m ys) (sym (add-one n)) more
 
 -- the rows as numbers, where the function gives what a server has
-pub rows_lem : {C K Mark : Type 0} (gives : Server C K Mark → Row → Type 0) (seen : ServerState → Four) (server : ℕ → ServerState) (n : ℕ) (rows : List Row)
+pub rows_lem : {C K Mark : Type 0} (gives : Server C K Mark → Row → Type 0) (seen : ServerState → PerSite) (server : ℕ → ServerState) (n : ℕ) (rows : List Row)
     → ((s : Server C K Mark) (row : Row) → gives s row → row ≡ seen (server_view s))
     → RowsOf gives server n rows → rows ≡ tabulate (λ i. seen (server i)) n
 rows_lem gives seen server zero rows sees e = e

@@ -8,28 +8,28 @@ use Rattle.stamps.specs.declared.refusal.Refusal.{Refusal}
 use Rattle.stamps.specs.declared.refusal.Refusal.TheVariants.{NotInLayout}
 use Rattle.stamps.specs.Refusals.{RefusalKeeps}
 use Rattle.servers.proofs.RowEntries.{by_site}
-use Rattle.servers.specs.Servers.{ServerState, fresh, view as server_view}
+use Rattle.servers.specs.Servers.{ServerState, new_server, view as server_view}
 use Rattle.group.specs.Model.Groups.{GroupState, SessionState, SeatState}
 use Rattle.group.specs.Model.Calls.{has_server, server_left, on_server}
 use Rattle.servers.specs.declared.server.Server.{Server}
 use Rattle.group.specs.declared.group_parts.GroupParts.{GroupParts}
 use Rattle.group.specs.declared.place.Place.{Place}
-use Rattle.group.specs.Parts.{at, called_at, server_at, view, with_server_at}
+use Rattle.group.specs.Parts.{server_from, call_server_at, server_at, view, with_server_at}
 use Rattle.group.specs.Layouts.{checked_place}
 use Rattle.group.specs.Places.{place_of}
 
 -- one server replaced in the array is that server replaced in the state
 at_set : (sites : ℕ) (xs : List ServerState) (site partition : ℕ) (s : ServerState) → length xs ≡ 16 → site < 4 → partition < 4
-    → at sites (set xs (place_of site partition) s) ≡ (λ i n. cond (eqb i site && eqb n partition) s (at sites xs i n))
+    → server_from sites (set xs (place_of site partition) s) ≡ (λ i n. cond (eqb i site && eqb n partition) s (server_from sites xs i n))
 at_set sites xs site partition s len ls lp =
     fun_ext λ i. fun_ext λ n.
-    grind (arith, nat_tests, cases_eq (place_of i n) (place_of site partition), get_or-set_same xs (place_of site partition) s (fresh i sites), get_or-set_other xs (place_of site partition) (place_of i n) s (fresh i sites))
+    grind (arith, nat_tests, cases_eq (place_of i n) (place_of site partition), get_or-set_same xs (place_of site partition) s (new_server i sites), get_or-set_other xs (place_of site partition) (place_of i n) s (new_server i sites))
 
 -- the array as it was
-at_same : (sites : ℕ) (xs : List ServerState) (site partition : ℕ) (s : ServerState) → site < 4 → partition < 4 → s ≡ at sites xs site partition → at sites (set xs (place_of site partition) s) ≡ at sites xs
+at_same : (sites : ℕ) (xs : List ServerState) (site partition : ℕ) (s : ServerState) → site < 4 → partition < 4 → s ≡ server_from sites xs site partition → server_from sites (set xs (place_of site partition) s) ≡ server_from sites xs
 at_same sites xs site partition s ls lp e =
-    let here : at sites xs site partition ≡ get_or xs (place_of site partition) (fresh site sites) = grind (arith, nat_tests) in
-    ap (λ t. at sites (set xs (place_of site partition) t)) (e ∙ here) ∙ ap (at sites) (set-get_or xs (place_of site partition) (fresh site sites))
+    let here : server_from sites xs site partition ≡ get_or xs (place_of site partition) (new_server site sites) = grind (arith, nat_tests) in
+    ap (λ t. server_from sites (set xs (place_of site partition) t)) (e ∙ here) ∙ ap (server_from sites) (set-get_or xs (place_of site partition) (new_server site sites))
 
 -- the parts of a group's state that are no servers
 pub record Rest : Type 0 where
@@ -55,9 +55,9 @@ IsPlace place = (place.0 < 4) × (place.1 < 4)
 -- the server that stands in the array
 pub at_place : {C K Mark : Type 0} (sites : ℕ) (servers : List (Server C K Mark)) (site partition p : ℕ) (d : Server C K Mark)
     → length servers ≡ 16 → site < 4 → partition < 4
-    → p ≡ place_of site partition → at sites (map server_view servers) site partition ≡ server_view (get_or servers p d)
+    → p ≡ place_of site partition → server_from sites (map server_view servers) site partition ≡ server_view (get_or servers p d)
 at_place sites servers site partition p d len ls lp e =
-    let m = get_or-map server_view servers p d (fresh site sites) (omega arith) in
+    let m = get_or-map server_view servers p d (new_server site sites) (omega arith) in
     grind (arith, nat_tests, m)
 
 -- the servers of a site stand side by side
@@ -65,7 +65,7 @@ pub quarter : {C K Mark : Type 0} (sites : ℕ) (servers : List (Server C K Mark
     → length servers ≡ 16 → site < 4 → count ≤ 4 → first ≡ site * 4 → some ≡ count
     → (length (take some (drop first servers)) ≡ count)
     × ((n : ℕ) (d : Server C K Mark) → n < length (take some (drop first servers))
-    → server_view (get_or (take some (drop first servers)) n d) ≡ at sites (map server_view servers) site n)
+    → server_view (get_or (take some (drop first servers)) n d) ≡ server_from sites (map server_view servers) site n)
 quarter sites servers site count first some len ls few ef es =
     let rest = drop first servers in
     let left : length rest ≡ 16 - first = omega (arith, length-drop first servers) in
@@ -80,21 +80,21 @@ quarter sites servers site count first some len ls few ef es =
 -- one server changed in the array is that server changed in the group
 pub change_server_lem : {C K Mark : Type 0} (rest : Rest) (servers : List (Server C K Mark)) (place : Place) (p : ℕ) (d new : Server C K Mark) (change : ServerState → ServerState)
     → length servers ≡ 16 → IsPlace place → p ≡ place_of place.0 place.1 → server_view new ≡ change (server_view (get_or servers p d))
-    → (let g = state_with rest (at rest.sites (map server_view servers)) in
-    state_with rest (at rest.sites (map server_view (set servers p new))) ≡ with_server_at g place (change (server_at g place)))
+    → (let g = state_with rest (server_from rest.sites (map server_view servers)) in
+    state_with rest (server_from rest.sites (map server_view (set servers p new))) ≡ with_server_at g place (change (server_at g place)))
 change_server_lem rest servers place p d new change len is e step =
     let xs = map server_view servers in
     let s = server_view new in
-    let g = state_with rest (at rest.sites xs) in
-    ap (λ t. state_with rest (at rest.sites t)) (map-set server_view servers p new ∙ ap (λ q. set xs q s) e)
+    let g = state_with rest (server_from rest.sites xs) in
+    ap (λ t. state_with rest (server_from rest.sites t)) (map-set server_view servers p new ∙ ap (λ q. set xs q s) e)
     ∙ ap (state_with rest) (at_set rest.sites xs place.0 place.1 s (length-map servers server_view ∙ len) is.0 is.1)
     ∙ ap (λ t. with_server_at g place t) (step ∙ ap change (sym (at_place rest.sites servers place.0 place.1 p d len is.0 is.1 e)))
 
 -- a server's answer, and the group with that server as it was left, are the group's answer and state
 left_server : {A : Type 0} (rest : Rest) (xs : List ServerState) (place : Place) (r : Result A Refusal) (s : ServerState)
-    → length xs ≡ 16 → IsPlace place → RefusalKeeps r (at rest.sites xs place.0 place.1) s
-    → (r, state_with rest (at rest.sites (set xs (place_of place.0 place.1) s)))
-    ≡ server_left (state_with rest (at rest.sites xs)) place.0 place.1 (r, s)
+    → length xs ≡ 16 → IsPlace place → RefusalKeeps r (server_from rest.sites xs place.0 place.1) s
+    → (r, state_with rest (server_from rest.sites (set xs (place_of place.0 place.1) s)))
+    ≡ server_left (state_with rest (server_from rest.sites xs)) place.0 place.1 (r, s)
 left_server rest xs place (Ok x) s len is keeps =
     ap (λ t. (Ok x, state_with rest t)) (at_set rest.sites xs place.0 place.1 s len is.0 is.1)
 left_server rest xs place (Err why) s len is keeps =
@@ -105,14 +105,14 @@ pub call_server : {C K Mark A : Type 0} (rest : Rest) (servers : List (Server C 
     (act : ServerState → Result A Refusal × ServerState)
     → length servers ≡ 16 → IsPlace place → p ≡ place_of place.0 place.1
     → (r, server_view new) ≡ act (server_view (get_or servers p d)) → RefusalKeeps r (server_view (get_or servers p d)) (server_view new)
-    → (r, state_with rest (at rest.sites (map server_view (set servers p new)))) ≡ called_at (state_with rest (at rest.sites (map server_view servers))) place act
+    → (r, state_with rest (server_from rest.sites (map server_view (set servers p new)))) ≡ call_server_at (state_with rest (server_from rest.sites (map server_view servers))) place act
 call_server rest servers place p d new r act len is e step keeps =
     let sites = rest.sites in
     let xs = map server_view servers in
     let there = at_place sites servers place.0 place.1 p d len is.0 is.1 e in
-    ap (λ t. (r, state_with rest (at sites t))) (map-set server_view servers p new ∙ ap (λ q. set xs q (server_view new)) e)
+    ap (λ t. (r, state_with rest (server_from sites t))) (map-set server_view servers p new ∙ ap (λ q. set xs q (server_view new)) e)
     ∙ left_server rest xs place r (server_view new) (length-map servers server_view ∙ len) is (subst (λ s. RefusalKeeps r s (server_view new)) (sym there) keeps)
-    ∙ ap (server_left (state_with rest (at sites xs)) place.0 place.1) (step ∙ ap act (sym there))
+    ∙ ap (server_left (state_with rest (server_from sites xs)) place.0 place.1) (step ∙ ap act (sym there))
 
 -- what a check of a layout has let through
 pub passed : {A : Type 0} (b : Bool) (found given : A) → ◌≡◌ {A = Result A Refusal} (Ok found) (cond b (Ok given) (Err NotInLayout)) → (b ≡ true) × (found ≡ given)
@@ -128,7 +128,7 @@ at_numbers g place site partition e = by_numbers g.server site partition place e
 
 -- a call of the server that a layout has
 pub on_place : {A : Type 0} (g : GroupState) (site partition : ℕ) (place : Place) (act : ServerState → Result A Refusal × ServerState)
-    → (Ok place) ≡ checked_place g.sites g.partitions site partition → called_at g place act ≡ on_server g site partition act
+    → (Ok place) ≡ checked_place g.sites g.partitions site partition → call_server_at g place act ≡ on_server g site partition act
 on_place g site partition place act e =
     let p = passed (has_server g site partition) place (site, partition) e in
     by_numbers (λ i n. server_left g i n (act (g.server i n))) site partition place p.1
@@ -149,9 +149,9 @@ pub on_server_lem : {C K Mark A : Type 0} (rest : Rest) (servers : List (Server 
     (act : ServerState → Result A Refusal × ServerState)
     → (Ok place) ≡ checked_place rest.sites rest.partitions site partition → length servers ≡ 16 → IsPlace place → p ≡ place_of place.0 place.1
     → (r, server_view new) ≡ act (server_view (get_or servers p d)) → RefusalKeeps r (server_view (get_or servers p d)) (server_view new)
-    → (r, state_with rest (at rest.sites (map server_view (set servers p new)))) ≡ on_server (state_with rest (at rest.sites (map server_view servers))) site partition act
+    → (r, state_with rest (server_from rest.sites (map server_view (set servers p new)))) ≡ on_server (state_with rest (server_from rest.sites (map server_view servers))) site partition act
 on_server_lem rest servers site partition place p d new r act found len is e step keeps =
-    call_server rest servers place p d new r act len is e step keeps ∙ on_place (state_with rest (at rest.sites (map server_view servers))) site partition place act found
+    call_server rest servers place p d new r act len is e step keeps ∙ on_place (state_with rest (server_from rest.sites (map server_view servers))) site partition place act found
 
 -- a refusal of a server leaves the group as it was
 pub refused_same : {A : Type 0} (g mid : GroupState) (site partition : ℕ) (why : Refusal) (t : Result A Refusal × ServerState)
@@ -182,18 +182,18 @@ on_server_keeps g after site partition r act e = subst (λ t. RefusalKeeps t.0 g
 abbrev pub quartets : ServerState → ServerState → ServerState → ServerState → List ServerState
 quartets a b c d = a ∷ a ∷ a ∷ a ∷ b ∷ b ∷ b ∷ b ∷ c ∷ c ∷ c ∷ c ∷ d ∷ d ∷ d ∷ d ∷ []
 
-pub at_made : (sites : ℕ) (a b c d : ServerState) → a ≡ fresh 0 sites → b ≡ fresh 1 sites → c ≡ fresh 2 sites → d ≡ fresh 3 sites
-    → at sites (quartets a b c d) ≡ (λ site partition. fresh site sites)
+pub at_made : (sites : ℕ) (a b c d : ServerState) → a ≡ new_server 0 sites → b ≡ new_server 1 sites → c ≡ new_server 2 sites → d ≡ new_server 3 sites
+    → server_from sites (quartets a b c d) ≡ (λ site partition. new_server site sites)
 at_made sites a b c d p q r s =
-    rw (p, q, r, s) (fun_ext λ i. fun_ext λ n. by_site (λ j. at sites fours j n ≡ fresh j sites)
+    rw (p, q, r, s) (fun_ext λ i. fun_ext λ n. by_site (λ j. server_from sites fours j n ≡ new_server j sites)
     (at_one 0 refl refl refl refl n) (at_one 1 refl refl refl refl n) (at_one 2 refl refl refl refl n) (at_one 3 refl refl refl refl n)
-    (λ m. cond-false (ltb (suc (suc (suc (suc m)))) 4 && ltb n 4) _ (fresh (suc (suc (suc (suc m)))) sites) (and_left (ltb (suc (suc (suc (suc m)))) 4) (ltb n 4) (le-ltb (suc (suc (suc (suc m)))) 4 (omega arith)))) i)
+    (λ m. cond-false (ltb (suc (suc (suc (suc m)))) 4 && ltb n 4) _ (new_server (suc (suc (suc (suc m)))) sites) (and_left (ltb (suc (suc (suc (suc m)))) 4) (ltb n 4) (le-ltb (suc (suc (suc (suc m)))) 4 (omega arith)))) i)
   where
     fours : List ServerState
-    fours = quartets (fresh 0 sites) (fresh 1 sites) (fresh 2 sites) (fresh 3 sites)
+    fours = quartets (new_server 0 sites) (new_server 1 sites) (new_server 2 sites) (new_server 3 sites)
 
-    at_one : (site : ℕ) → at sites fours site 0 ≡ fresh site sites → at sites fours site 1 ≡ fresh site sites → at sites fours site 2 ≡ fresh site sites → at sites fours site 3 ≡ fresh site sites
-        → (n : ℕ) → at sites fours site n ≡ fresh site sites
+    at_one : (site : ℕ) → server_from sites fours site 0 ≡ new_server site sites → server_from sites fours site 1 ≡ new_server site sites → server_from sites fours site 2 ≡ new_server site sites → server_from sites fours site 3 ≡ new_server site sites
+        → (n : ℕ) → server_from sites fours site n ≡ new_server site sites
     at_one site e f g h n =
-        by_site (λ m. at sites fours site m ≡ fresh site sites) e f g h
-        (λ m. cond-false (ltb site 4 && ltb (suc (suc (suc (suc m)))) 4) _ (fresh site sites) (and_right (ltb site 4) (ltb (suc (suc (suc (suc m)))) 4) (le-ltb (suc (suc (suc (suc m)))) 4 (omega arith)))) n
+        by_site (λ m. server_from sites fours site m ≡ new_server site sites) e f g h
+        (λ m. cond-false (ltb site 4 && ltb (suc (suc (suc (suc m)))) 4) _ (new_server site sites) (and_right (ltb site 4) (ltb (suc (suc (suc (suc m)))) 4) (le-ltb (suc (suc (suc (suc m)))) 4 (omega arith)))) n

@@ -1,7 +1,7 @@
 -- A group in plain numbers.
 use Rattle.std.specs.Prelude.{◌≡◌, ℕ, zero, suc, ◌<◌, cond, ◌&&◌, List, [], ◌∷◌, ◌++◌, map, length, Result, nat_lt, slice_index_or}
 use Rattle.fixed_vec.specs.Items.{items}
-use Rattle.servers.specs.Servers.{ServerState, fresh, view as server_view}
+use Rattle.servers.specs.Servers.{ServerState, new_server, view as server_view}
 use Rattle.servers.specs.declared.server.Server.{Server}
 use Rattle.stamps.specs.declared.row.Row.{Row}
 use Rattle.stamps.specs.declared.refusal.Refusal.{Refusal}
@@ -12,16 +12,16 @@ use Rattle.group.specs.declared.place.Place.{Place}
 use Rattle.group.specs.Places.{place_of}
 
 -- the server of a site and a partition; past the array, a server as it is made
-abbrev pub at : ℕ → List ServerState → ℕ → ℕ → ServerState
-at sites servers site partition =
-    cond (nat_lt site 4 && nat_lt partition 4) (slice_index_or servers (place_of site partition) (fresh site sites)) (fresh site sites)
+abbrev pub server_from : ℕ → List ServerState → ℕ → ℕ → ServerState
+server_from sites servers site partition =
+    cond (nat_lt site 4 && nat_lt partition 4) (slice_index_or servers (place_of site partition) (new_server site sites)) (new_server site sites)
 
 abbrev pub view : {C K Mark : Type 0} → GroupParts C K Mark → GroupState
 view g =
     record {
       sites = g.layout.sites;
       partitions = g.layout.partitions;
-      server = at g.layout.sites (map server_view g.servers);
+      server = server_from g.layout.sites (map server_view g.servers);
       sessions = items g.sessions;
       seats = g.seats.places;
       next_serial = g.next_serial;
@@ -36,8 +36,8 @@ abbrev pub with_server_at : GroupState → Place → ServerState → GroupState
 with_server_at g place s = with_server g place.0 place.1 s
 
 -- what a call of the server at a place answers, and the group after it
-abbrev pub called_at : {A : Type 0} → GroupState → Place → (ServerState → Result A Refusal × ServerState) → Result A Refusal × GroupState
-called_at g place act = server_left g place.0 place.1 (act (server_at g place))
+abbrev pub call_server_at : {A : Type 0} → GroupState → Place → (ServerState → Result A Refusal × ServerState) → Result A Refusal × GroupState
+call_server_at g place act = server_left g place.0 place.1 (act (server_at g place))
 
 -- the servers of a site, by partition
 abbrev pub ServersOf : {C K Mark : Type 0} → GroupParts C K Mark → ℕ → List (Server C K Mark) → Type 0

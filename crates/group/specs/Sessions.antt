@@ -2,7 +2,7 @@
 use Rattle.std.specs.Prelude.{ℕ, cond, List, length, Some, None, Ok, Err, Option, Result, ◌==◌, nat_lt}
 use Rattle.stamps.specs.declared.refusal.Refusal.{Refusal}
 use Rattle.stamps.specs.declared.refusal.Refusal.TheVariants.{NotOpen}
-use Rattle.stamps.specs.Rows.{Four}
+use Rattle.stamps.specs.Rows.{PerSite}
 use Rattle.group.specs.Model.Groups.{GroupState, SeatState, lowest_free, session_at}
 
 -- the lowest free seat, if one is free
@@ -10,7 +10,7 @@ abbrev pub free_seat : List (Option SeatState) → Option ℕ
 free_seat ys = cond (nat_lt (lowest_free ys) (length ys)) (Some (lowest_free ys)) None
 
 -- the cut of an open snapshot of a site's session
-abbrev pub cut_in : GroupState → ℕ → Option SeatState → Option Four
+abbrev pub cut_in : GroupState → ℕ → Option SeatState → Option PerSite
 cut_in g site None = None
 cut_in g site (Some y) = cond ((session_at g y.session).site == site) (Some y.cut) None
 

@@ -1,5 +1,5 @@
 // The whole group: every server of every site, the sessions and the open snapshots.
-ghost use Rattle.group.specs.Model.Reached.{Reached};
+ghost use Rattle.group.specs.Model.Reached.{IsReached};
 ghost use Rattle.group.specs.Parts.{view as parts_view};
 
 use crate::group_parts::GroupParts;
@@ -10,7 +10,7 @@ use stamps::mark_kind::MarkKind;
 #[derive(Drop)]
 pub struct Group<C: ClockRule, K: MarkKind> {
     parts: GroupParts<C, K>,
-    ghost reached: { ∥ Reached C.ClockRule.answer K.MarkKind.kind (parts_view parts) ∥₁ },
+    ghost reached: { ∥ IsReached C.ClockRule.answer K.MarkKind.kind (parts_view parts) ∥₁ },
 }
 
 mod calls;

@@ -3,7 +3,7 @@
 
 ghost use Rattle.std.specs.Prelude.{◌≡◌, ℕ, pos, take};
 ghost use Rattle.stamps.specs.Clocks.{raw as raw_rule, hybrid as hybrid_rule};
-ghost use Rattle.stamps.specs.Outside.{asked_stamp, signed_number};
+ghost use Rattle.stamps.specs.Outside.{stamp_from, signed_number};
 ghost use Rattle.script.specs.Laws.{ListingLaw};
 ghost use Rattle.script.specs.Scripts.{listing_into};
 ghost use Rattle.price_store_c.specs.Signed.{with_number};
@@ -16,7 +16,7 @@ use stamps::raw::Raw;
 // The stamp that the raw rule answers, or minus the refusal's number.
 #[unsafe(no_mangle)]
 pub extern "C" fn raw_stamp(last: u64, reading: u64, dependency: u64) -> i64
-    ensures { result ≡ signed_number (asked_stamp raw_rule last reading dependency) }
+    ensures { result ≡ signed_number (stamp_from raw_rule last reading dependency) }
 {
     signed_stamp::<Raw>(last, reading, dependency)
 }
@@ -24,7 +24,7 @@ pub extern "C" fn raw_stamp(last: u64, reading: u64, dependency: u64) -> i64
 // The stamp that the hybrid rule answers, or minus the refusal's number.
 #[unsafe(no_mangle)]
 pub extern "C" fn hybrid_stamp(last: u64, reading: u64, dependency: u64) -> i64
-    ensures { result ≡ signed_number (asked_stamp hybrid_rule last reading dependency) }
+    ensures { result ≡ signed_number (stamp_from hybrid_rule last reading dependency) }
 {
     signed_stamp::<Hybrid>(last, reading, dependency)
 }

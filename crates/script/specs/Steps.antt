@@ -5,9 +5,9 @@ use Rattle.stamps.specs.declared.refusal.Refusal.TheVariants.{LayoutMisplaced}
 use Rattle.stamps.specs.Kinds.{Kind}
 use Rattle.servers.specs.Servers.{Rule}
 use Rattle.group.specs.Model.Events as call
-use Rattle.group.specs.Model.Events.{Call, Answered, Ticket}
+use Rattle.group.specs.Model.Events.{Call, Outcome, Ticket}
 use Rattle.group.specs.Model.Groups.{GroupState}
-use Rattle.group.specs.Model.Calls.{asked}
+use Rattle.group.specs.Model.Calls.{step}
 use Rattle.script.specs.declared.command.Command.{Command}
 use Rattle.script.specs.declared.command.Command.TheVariants.{Layout, OpenSession, Tell, Put, Get, Heartbeat, Deliver, Report, Stabilise, Tidy, Lead, View}
 use Rattle.script.specs.declared.answer.Answer.{Answer}
@@ -20,21 +20,21 @@ said_as say (Ok x) = say x
 said_as say (Err why) = refused why
 
 -- a call with its answer as it is said
-abbrev pub calling : Rule → Kind → GroupState → (c : Call) → (Answered c → Said) → Result Said Refusal × GroupState
+abbrev pub calling : Rule → Kind → GroupState → (c : Call) → (Outcome c → Said) → Result Said Refusal × GroupState
 calling rule k g c say =
-    let outcome = asked rule k g c in
+    let outcome = step rule k g c in
     (Ok (said_as say outcome.0), outcome.1)
 
 -- a snapshot is opened, two keys are read, and it is closed; an opening that is refused is all
 abbrev pub viewed_as : Rule → Kind → Result Ticket Refusal × GroupState → ℕ → ℕ → Said × GroupState
 viewed_as rule k (Err why, g) first second = (refused why, g)
 viewed_as rule k (Ok ticket, g) first second =
-    let one = asked rule k g (call.read ticket first) in
-    let two = asked rule k one.1 (call.read ticket second) in
-    (both one.0 two.0, (asked rule k two.1 (call.close ticket)).1)
+    let one = step rule k g (call.read ticket first) in
+    let two = step rule k one.1 (call.read ticket second) in
+    (both one.0 two.0, (step rule k two.1 (call.close ticket)).1)
 
 abbrev pub viewed : Rule → Kind → GroupState → ℕ → ℕ → ℕ → ℕ → Said × GroupState
-viewed rule k g session partition first second = viewed_as rule k (asked rule k g (call.open_snapshot session partition)) first second
+viewed rule k g session partition first second = viewed_as rule k (step rule k g (call.open_snapshot session partition)) first second
 
 -- an answer after which the listing goes on
 abbrev pub going_on : Said × GroupState → Result Said Refusal × GroupState

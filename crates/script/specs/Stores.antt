@@ -56,7 +56,7 @@ abbrev pub made_store : Command → Result Store Refusal
 made_store (Layout sites partitions clock marks) =
     and_then (checked_counts sites partitions) (λ counts.
     and_then (clock_of clock) (λ rule.
-    and_then (marks_of marks) (λ kind. Ok (made rule kind (model.made counts.0 counts.1)))))
+    and_then (marks_of marks) (λ kind. Ok (made rule kind (model.new_group counts.0 counts.1)))))
 made_store command = Err LayoutMisplaced
 
 -- a first command is done if it makes a group
@@ -77,7 +77,7 @@ obeyed (made clock marks g) command = keeping clock marks (performed (clock_rule
 
 -- the new group of a choice
 abbrev pub chosen_store : Choice → Store
-chosen_store choice = made choice.clock choice.marks (model.made choice.layout.sites choice.layout.partitions)
+chosen_store choice = made choice.clock choice.marks (model.new_group choice.layout.sites choice.layout.partitions)
 
 -- the store of what was made, or the refusal
 abbrev pub store_as : {A : Type 0} → (A → Store) → Result A Refusal → Result Store Refusal

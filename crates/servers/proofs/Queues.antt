@@ -4,13 +4,13 @@ use mathlib.Core.Path.{fun_ext}
 use Rattle.std.proofs.lemmas.List.{drop_all, drop-append-le, drop-drop, drop_more, length-append, length-drop}
 use Rattle.std.proofs.lemmas.Bool.{cases_Bool, cond_both, cond-false, cond-true, eqb-false, eqb-true, le-ltb, lt-ltb, ne_eqb, true≢false}
 use Rattle.std.proofs.lemmas.Bool.Decides.{nat_tests}
-use Rattle.stamps.specs.Rows.{Four, at, greatest, with_entry}
+use Rattle.stamps.specs.Rows.{PerSite, at, greatest, with_entry}
 use Rattle.servers.specs.Counting.{one_more}
 use Rattle.servers.specs.declared.entry.Entry.{Entry}
-use Rattle.servers.specs.Lefts.{OthersOnly}
+use Rattle.servers.specs.Lefts.{IsOthersOnly}
 use Rattle.servers.specs.Others.{is_other}
 use Rattle.servers.proofs.RowEntries.{at_other, at_same, by_site}
-use Rattle.servers.specs.Outboxes.{first, issued, last_for, next_for, outbox_full, taken_by}
+use Rattle.servers.specs.Outboxes.{first, issue_entry, last_for, next_for, is_outbox_full, take_entry}
 
 -- how many are waiting
 last_length : {A : Type 0} (es : List A) (l : ℕ) → l ≤ length es → length (drop (length es - l) es) ≡ l
@@ -47,11 +47,11 @@ pub last_first : {A : Type 0} (es : List A) (l : ℕ) (d : A) → 0 < l → l �
 last_first es l d some h = ap first (drop_more es (length es - l) d (omega arith))
 
 -- no site has more to take than there are entries
-pub left_within : (left : Four) (n i : ℕ) → greatest left ≡ n → at left i ≤ n
+pub left_within : (left : PerSite) (n i : ℕ) → greatest left ≡ n → at left i ≤ n
 left_within left n i e = grind (arith, nat_tests)
 
 -- the outbox is full exactly if it holds 16 entries
-pub full_is : (own sites : ℕ) (es : List Entry) (left : Four) → OthersOnly own sites left → greatest left ≡ length es → leb 16 (length es) ≡ outbox_full own sites (last_for es left)
+pub full_is : (own sites : ℕ) (es : List Entry) (left : PerSite) → IsOthersOnly own sites left → greatest left ≡ length es → leb 16 (length es) ≡ is_outbox_full own sites (last_for es left)
 full_is own sites es left others needed =
     let a = last_length es left.site0 (omega arith) in
     let b = last_length es left.site1 (omega arith) in
@@ -59,7 +59,7 @@ full_is own sites es left others needed =
     let d = last_length es left.site3 (omega arith) in
     rw (a, b, c, d) (full_of (is_other own sites 0) (is_other own sites 1) (is_other own sites 2) (is_other own sites 3) left (length es) others needed)
   where
-    full_of : (p q r s : Bool) (left : Four) (n : ℕ) → (p ≡ false → left.site0 ≡ 0) × (q ≡ false → left.site1 ≡ 0) × (r ≡ false → left.site2 ≡ 0) × (s ≡ false → left.site3 ≡ 0) → greatest left ≡ n
+    full_of : (p q r s : Bool) (left : PerSite) (n : ℕ) → (p ≡ false → left.site0 ≡ 0) × (q ≡ false → left.site1 ≡ 0) × (r ≡ false → left.site2 ≡ 0) × (s ≡ false → left.site3 ≡ 0) → greatest left ≡ n
         → leb 16 n ≡ ((p && leb 16 left.site0) || ((q && leb 16 left.site1) || ((r && leb 16 left.site2) || (s && leb 16 left.site3))))
     full_of p q r s left n z e = grind (arith, nat_tests, cases_Bool p, cases_Bool q, cases_Bool r, cases_Bool s)
 
@@ -72,17 +72,17 @@ push_for false es e l l' h none is = let z = none refl in last_none (es ++ e ∷
 past_other : (own sites n : ℕ) → sites ≤ 4 → is_other own sites (suc (suc (suc (suc n)))) ≡ false
 past_other own sites n h = grind (arith, nat_tests)
 
-past_last : (es : List Entry) (left : Four) (n : ℕ) → last_for es left (suc (suc (suc (suc n)))) ≡ []
+past_last : (es : List Entry) (left : PerSite) (n : ℕ) → last_for es left (suc (suc (suc (suc n)))) ≡ []
 past_last es left n = cond-false (ltb (suc (suc (suc (suc n)))) 4) (drop (length es - at left (suc (suc (suc (suc n))))) es) [] (le-ltb (suc (suc (suc (suc n)))) 4 (omega arith))
 
-issue_is : (own sites : ℕ) (es : List Entry) (e : Entry) (left left' : Four) → sites ≤ 4 → OthersOnly own sites left → greatest left ≡ length es
+issue_is : (own sites : ℕ) (es : List Entry) (e : Entry) (left left' : PerSite) → sites ≤ 4 → IsOthersOnly own sites left → greatest left ≡ length es
     → left'.site0 ≡ left.site0 + cond (is_other own sites 0) 1 0
     → left'.site1 ≡ left.site1 + cond (is_other own sites 1) 1 0
     → left'.site2 ≡ left.site2 + cond (is_other own sites 2) 1 0
     → left'.site3 ≡ left.site3 + cond (is_other own sites 3) 1 0
-    → last_for (es ++ e ∷ []) left' ≡ issued own sites (last_for es left) e
+    → last_for (es ++ e ∷ []) left' ≡ issue_entry own sites (last_for es left) e
 issue_is own sites es e left left' few others needed a b c d =
-    fun_ext (by_site (λ i. last_for (es ++ e ∷ []) left' i ≡ issued own sites (last_for es left) e i)
+    fun_ext (by_site (λ i. last_for (es ++ e ∷ []) left' i ≡ issue_entry own sites (last_for es left) e i)
     (push_for (is_other own sites 0) es e left.site0 left'.site0 (omega arith) others.0 a)
     (push_for (is_other own sites 1) es e left.site1 left'.site1 (omega arith) others.1 b)
     (push_for (is_other own sites 2) es e left.site2 left'.site2 (omega arith) others.2 c)
@@ -97,19 +97,19 @@ grown false l l' none is z = let k = none refl in omega arith
 some_other : (own sites : ℕ) → 2 ≤ sites → (is_other own sites 0 || is_other own sites 1) ≡ true
 some_other own sites h = grind (arith, nat_tests)
 
-longest : (p q r s : Bool) (left left' : Four) (n : ℕ) → (p || q) ≡ true
+longest : (p q r s : Bool) (left left' : PerSite) (n : ℕ) → (p || q) ≡ true
     → (p ≡ false → left.site0 ≡ 0) × (q ≡ false → left.site1 ≡ 0) × (r ≡ false → left.site2 ≡ 0) × (s ≡ false → left.site3 ≡ 0)
     → greatest left ≡ n
     → left'.site0 ≡ left.site0 + cond p 1 0 → left'.site1 ≡ left.site1 + cond q 1 0 → left'.site2 ≡ left.site2 + cond r 1 0 → left'.site3 ≡ left.site3 + cond s 1 0
     → greatest left' ≡ n + 1
 longest p q r s left left' n o z e a b c d = grind (arith, cases_Bool p, cases_Bool q, cases_Bool r, cases_Bool s)
 
-issue_left : (own sites : ℕ) (left left' : Four) (n : ℕ) → 2 ≤ sites → OthersOnly own sites left → greatest left ≡ n
+issue_left : (own sites : ℕ) (left left' : PerSite) (n : ℕ) → 2 ≤ sites → IsOthersOnly own sites left → greatest left ≡ n
     → left'.site0 ≡ left.site0 + cond (is_other own sites 0) 1 0
     → left'.site1 ≡ left.site1 + cond (is_other own sites 1) 1 0
     → left'.site2 ≡ left.site2 + cond (is_other own sites 2) 1 0
     → left'.site3 ≡ left.site3 + cond (is_other own sites 3) 1 0
-    → OthersOnly own sites left' × (greatest left' ≡ n + 1)
+    → IsOthersOnly own sites left' × (greatest left' ≡ n + 1)
 issue_left own sites left left' n some others needed a b c d = (
   (grown (is_other own sites 0) left.site0 left'.site0 others.0 a, grown (is_other own sites 1) left.site1 left'.site1 others.1 b, grown (is_other own sites 2) left.site2 left'.site2 others.2 c, grown (is_other own sites 3) left.site3 left'.site3 others.3 d),
   longest (is_other own sites 0) (is_other own sites 1) (is_other own sites 2) (is_other own sites 3) left left' n (some_other own sites some) others needed a b c d,
@@ -124,10 +124,10 @@ taken_for taker i es l l' h same other =
     (λ e. ap (λ m. drop (length es - m) es) (other (eqb-false i taker e)))
 
 -- the queues, with left as a record: the taker has one fewer, the others as many as before
-take_is : (taker : ℕ) (es : List Entry) (left left' : Four) → taker < 4 → greatest left ≡ length es → ((i : ℕ) → i ≡ taker → at left' i ≡ at left i - 1) → ((i : ℕ) → i < 4 → (i ≡ taker → ⊥) → at left' i ≡ at left i)
-    → last_for es left' ≡ taken_by (last_for es left) taker
+take_is : (taker : ℕ) (es : List Entry) (left left' : PerSite) → taker < 4 → greatest left ≡ length es → ((i : ℕ) → i ≡ taker → at left' i ≡ at left i - 1) → ((i : ℕ) → i < 4 → (i ≡ taker → ⊥) → at left' i ≡ at left i)
+    → last_for es left' ≡ take_entry (last_for es left) taker
 take_is taker es left left' few needed same other =
-    fun_ext (by_site (λ i. last_for es left' i ≡ taken_by (last_for es left) taker i)
+    fun_ext (by_site (λ i. last_for es left' i ≡ take_entry (last_for es left) taker i)
     (taken_for taker 0 es left.site0 left'.site0 (omega arith) (same 0) (other 0 (omega arith)))
     (taken_for taker 1 es left.site1 left'.site1 (omega arith) (same 1) (other 1 (omega arith)))
     (taken_for taker 2 es left.site2 left'.site2 (omega arith) (same 2) (other 2 (omega arith)))
@@ -135,7 +135,7 @@ take_is taker es left left' few needed same other =
     (λ n. past_last es left' n ∙ sym (cond-false (eqb (suc (suc (suc (suc n)))) taker) _ (last_for es left (suc (suc (suc (suc n))))) (ne_eqb (suc (suc (suc (suc n)))) taker (λ e. omega arith)) ∙ past_last es left n)))
 
 -- only as many entries are kept as some site has still to take, and every queue stays
-pub kept_queues : (es : List Entry) (left : Four) → greatest left ≤ length es → last_for (drop (length es - greatest left) es) left ≡ last_for es left
+pub kept_queues : (es : List Entry) (left : PerSite) → greatest left ≤ length es → last_for (drop (length es - greatest left) es) left ≡ last_for es left
 kept_queues es left h =
     let g = greatest left in
     fun_ext (by_site (λ i. last_for (drop (length es - g) es) left i ≡ last_for es left i)
@@ -143,36 +143,36 @@ kept_queues es left h =
     (λ n. past_last (drop (length es - g) es) left n ∙ sym (past_last es left n)))
 
 -- the queue of a site
-last_at : (es : List Entry) (left : Four) (i : ℕ) → i < 4 → last_for es left i ≡ drop (length es - at left i) es
+last_at : (es : List Entry) (left : PerSite) (i : ℕ) → i < 4 → last_for es left i ≡ drop (length es - at left i) es
 last_at es left i h = cond-true (ltb i 4) (drop (length es - at left i) es) [] (lt-ltb i 4 h)
 
-pub next_none : (es : List Entry) (left : Four) (i : ℕ) → i < 4 → at left i ≡ 0 → None ≡ next_for (last_for es left) i
+pub next_none : (es : List Entry) (left : PerSite) (i : ℕ) → i < 4 → at left i ≡ 0 → None ≡ next_for (last_for es left) i
 next_none es left i h z = sym (ap first (last_at es left i h ∙ last_none es (at left i) z))
 
-pub next_some : (es : List Entry) (left : Four) (i : ℕ) (d : Entry) → i < 4 → 0 < at left i → at left i ≤ length es → Some (get_or es (length es - at left i) d) ≡ next_for (last_for es left) i
+pub next_some : (es : List Entry) (left : PerSite) (i : ℕ) (d : Entry) → i < 4 → 0 < at left i → at left i ≤ length es → Some (get_or es (length es - at left i) d) ≡ next_for (last_for es left) i
 next_some es left i d h some within = sym (ap first (last_at es left i h) ∙ last_first es (at left i) d some within)
 
 -- after an issue
-pub issue_queues : (own sites : ℕ) (es : List Entry) (e : Entry) (left : Four) → sites ≤ 4 → OthersOnly own sites left → greatest left ≡ length es
-    → last_for (es ++ e ∷ []) (one_more own sites left) ≡ issued own sites (last_for es left) e
+pub issue_queues : (own sites : ℕ) (es : List Entry) (e : Entry) (left : PerSite) → sites ≤ 4 → IsOthersOnly own sites left → greatest left ≡ length es
+    → last_for (es ++ e ∷ []) (one_more own sites left) ≡ issue_entry own sites (last_for es left) e
 issue_queues own sites es e left few others needed = issue_is own sites es e left (one_more own sites left) few others needed refl refl refl refl
 
-pub issue_counts : (own sites : ℕ) (left : Four) (n : ℕ) → 2 ≤ sites → OthersOnly own sites left → greatest left ≡ n
-    → OthersOnly own sites (one_more own sites left) × (greatest (one_more own sites left) ≡ n + 1)
+pub issue_counts : (own sites : ℕ) (left : PerSite) (n : ℕ) → 2 ≤ sites → IsOthersOnly own sites left → greatest left ≡ n
+    → IsOthersOnly own sites (one_more own sites left) × (greatest (one_more own sites left) ≡ n + 1)
 issue_counts own sites left n some others needed = issue_left own sites left (one_more own sites left) n some others needed refl refl refl refl
 
 -- after a take
-abbrev pub fewer : Four → ℕ → Four
+abbrev pub fewer : PerSite → ℕ → PerSite
 fewer left taker = with_entry left taker (at left taker - 1)
 
-pub take_queues : (taker : ℕ) (es : List Entry) (left : Four) → taker < 4 → greatest left ≡ length es → last_for es (fewer left taker) ≡ taken_by (last_for es left) taker
+pub take_queues : (taker : ℕ) (es : List Entry) (left : PerSite) → taker < 4 → greatest left ≡ length es → last_for es (fewer left taker) ≡ take_entry (last_for es left) taker
 take_queues taker es left few needed = take_is taker es left (fewer left taker) few needed (λ i e. rw e (at_same left taker (at left taker - 1) few)) (λ i l ne. at_other left i taker (at left taker - 1) l ne)
 
 -- each count is at most what it was
-pub fewer_counts : (own sites taker : ℕ) (left : Four) (n : ℕ) → taker < 4 → OthersOnly own sites left → greatest left ≡ n
-    → OthersOnly own sites (fewer left taker) × (greatest (fewer left taker) ≤ n)
+pub fewer_counts : (own sites taker : ℕ) (left : PerSite) (n : ℕ) → taker < 4 → IsOthersOnly own sites left → greatest left ≡ n
+    → IsOthersOnly own sites (fewer left taker) × (greatest (fewer left taker) ≤ n)
 fewer_counts own sites taker left n few others needed =
-    by_site (λ t. t < 4 → OthersOnly own sites (fewer left t) × (greatest (fewer left t) ≤ n))
+    by_site (λ t. t < 4 → IsOthersOnly own sites (fewer left t) × (greatest (fewer left t) ≤ n))
     (λ _. ((λ z. let k = others.0 z in omega arith, others.1, others.2, others.3), omega arith))
     (λ _. ((others.0, λ z. let k = others.1 z in omega arith, others.2, others.3), omega arith))
     (λ _. ((others.0, others.1, λ z. let k = others.2 z in omega arith, others.3), omega arith))

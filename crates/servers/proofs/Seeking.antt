@@ -4,7 +4,7 @@ use Rattle.std.proofs.lemmas.List.{drop_all, drop_more, get_or_default}
 use Rattle.stamps.specs.Rows.{same}
 use Rattle.servers.specs.declared.value.Value.TheVariants.{Gone}
 use Rattle.servers.specs.declared.version.Version.{Version}
-use Rattle.servers.specs.Tables.{better, latest, latest_from}
+use Rattle.servers.specs.Tables.{better_of, latest, latest_from}
 
 -- what stands at the place that was found so far; d is what a read past the end would give
 abbrev pub standing : Version → List Version → Option ℕ → Option Version
@@ -18,7 +18,7 @@ within (Some i) n = i < n
 -- one turn: what was found now is the better of what was found before and the version at i
 pub seek_more : (shows : Version → Bool) (key : ℕ) (d : Version) (vs : List Version) (i : ℕ) (was is : Option ℕ)
     → i < length vs
-    → standing d vs is ≡ better shows key (standing d vs was) (get_or vs i d)
+    → standing d vs is ≡ better_of shows key (standing d vs was) (get_or vs i d)
     → latest_from shows key (standing d vs was) (drop i vs) ≡ latest shows key vs
     → latest_from shows key (standing d vs is) (drop (i + 1) vs) ≡ latest shows key vs
 seek_more shows key d vs i was is lt e inv =

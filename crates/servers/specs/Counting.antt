@@ -1,13 +1,13 @@
 -- A count for each site number, in plain numbers.
 use Rattle.std.specs.Prelude.{ℕ, ◌+◌, cond}
-use Rattle.stamps.specs.Rows.{Four}
+use Rattle.stamps.specs.Rows.{PerSite}
 use Rattle.servers.specs.Others.{is_other}
 
 -- 1 for another site of the layout, and 0 for the rest
 abbrev pub one_if : ℕ → ℕ → ℕ → ℕ
 one_if own sites site = cond (is_other own sites site) 1 0
 
-abbrev pub one_more : ℕ → ℕ → Four → Four
+abbrev pub one_more : ℕ → ℕ → PerSite → PerSite
 one_more own sites x =
     record {
       site0 = x.site0 + one_if own sites 0;

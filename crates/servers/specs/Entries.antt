@@ -3,6 +3,6 @@ use Rattle.std.specs.Prelude.{ℕ}
 use Rattle.servers.specs.declared.entry.Entry.{Entry}
 use Rattle.servers.specs.declared.entry.Entry.TheVariants.{Update, Heartbeat}
 
-abbrev pub stamp_of : Entry → ℕ
-stamp_of (Update v) = v.stamp
-stamp_of (Heartbeat s) = s
+abbrev pub entry_stamp : Entry → ℕ
+entry_stamp (Update v) = v.stamp
+entry_stamp (Heartbeat s) = s

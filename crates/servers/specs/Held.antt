@@ -5,5 +5,5 @@ use Rattle.servers.specs.declared.table.VersionTable.{VersionTable}
 use Rattle.servers.specs.declared.version.Version.{Version}
 
 -- the versions of a table, in order of arrival
-abbrev pub held : VersionTable → List Version
-held t = items t.versions
+abbrev pub versions_of : VersionTable → List Version
+versions_of t = items t.versions

@@ -1,7 +1,7 @@
 -- Outboxes: what each other site has still to take, in order of issue.
 use Rattle.std.specs.Prelude.{ℕ, ◌-◌, Bool, cond, ◌&&◌, ◌||◌, List, [], ◌∷◌, ◌++◌, length, drop, Some, None, Option, ◌==◌, nat_le, nat_lt}
 use Rattle.fixed_vec.specs.Items.{items}
-use Rattle.stamps.specs.Rows.{Four, at}
+use Rattle.stamps.specs.Rows.{PerSite, at}
 use Rattle.servers.specs.declared.entry.Entry.{Entry}
 use Rattle.servers.specs.Others.{is_other}
 use Rattle.servers.specs.declared.outbox.Outbox.{Outbox}
@@ -11,29 +11,29 @@ abbrev pub Queues : Type 0
 Queues = ℕ → List Entry
 
 -- the last entries: as many as the site has still to take
-abbrev pub last_for : List Entry → Four → Queues
+abbrev pub last_for : List Entry → PerSite → Queues
 last_for entries left site = cond (nat_lt site 4) (drop (length entries - at left site) entries) []
 
-abbrev pub waiting : Outbox → Queues
-waiting o = last_for (items o.entries) o.left
+abbrev pub queues_of : Outbox → Queues
+queues_of o = last_for (items o.entries) o.left
 
-abbrev pub none_waiting : Queues
-none_waiting site = []
+abbrev pub empty_queues : Queues
+empty_queues site = []
 
 -- some other site has 16 entries still to take
-abbrev pub has16 : ℕ → ℕ → Queues → ℕ → Bool
-has16 own sites w site = is_other own sites site && nat_le 16 (length (w site))
+abbrev pub is_queue_full : ℕ → ℕ → Queues → ℕ → Bool
+is_queue_full own sites w site = is_other own sites site && nat_le 16 (length (w site))
 
-abbrev pub outbox_full : ℕ → ℕ → Queues → Bool
-outbox_full own sites w = has16 own sites w 0 || (has16 own sites w 1 || (has16 own sites w 2 || has16 own sites w 3))
+abbrev pub is_outbox_full : ℕ → ℕ → Queues → Bool
+is_outbox_full own sites w = is_queue_full own sites w 0 || (is_queue_full own sites w 1 || (is_queue_full own sites w 2 || is_queue_full own sites w 3))
 
 -- one entry more for every other site
-abbrev pub issued : ℕ → ℕ → Queues → Entry → Queues
-issued own sites w e site = cond (is_other own sites site) (w site ++ e ∷ []) (w site)
+abbrev pub issue_entry : ℕ → ℕ → Queues → Entry → Queues
+issue_entry own sites w e site = cond (is_other own sites site) (w site ++ e ∷ []) (w site)
 
 -- the same, if no other site has 16 to take
 abbrev pub issued_if_room : ℕ → ℕ → Queues → Entry → Queues
-issued_if_room own sites w e = cond (outbox_full own sites w) w (issued own sites w e)
+issued_if_room own sites w e = cond (is_outbox_full own sites w) w (issue_entry own sites w e)
 
 abbrev pub first : {A : Type 0} → List A → Option A
 first [] = None
@@ -43,5 +43,5 @@ first (x ∷ xs) = Some x
 abbrev pub next_for : Queues → ℕ → Option Entry
 next_for w site = first (w site)
 
-abbrev pub taken_by : Queues → ℕ → Queues
-taken_by w taker site = cond (site == taker) (drop 1 (w site)) (w site)
+abbrev pub take_entry : Queues → ℕ → Queues
+take_entry w taker site = cond (site == taker) (drop 1 (w site)) (w site)

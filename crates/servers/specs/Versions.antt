@@ -1,13 +1,13 @@
 -- Versions: which is later, and their full marks.
 use Rattle.std.specs.Prelude.{Bool, ◌&&◌, ◌||◌, ◌==◌, nat_lt}
-use Rattle.stamps.specs.Rows.{Four, join}
+use Rattle.stamps.specs.Rows.{PerSite, join}
 use Rattle.stamps.specs.Kinds.{Kind}
 use Rattle.servers.specs.declared.version.Version.{Version}
 
 -- v is later than w: a higher stamp, or at equal stamps a higher source
-abbrev pub later : Version → Version → Bool
-later v w = nat_lt w.stamp v.stamp || (w.stamp == v.stamp && nat_lt w.source v.source)
+abbrev pub is_later : Version → Version → Bool
+is_later v w = nat_lt w.stamp v.stamp || (w.stamp == v.stamp && nat_lt w.source v.source)
 
 -- the full mark: the version and what its writer depended on
-abbrev pub full_mark : Kind → Version → Four
+abbrev pub full_mark : Kind → Version → PerSite
 full_mark k v = join (k.floor v.mark) (k.lift v.source v.stamp)

@@ -9,16 +9,16 @@ pub(crate) struct Counts {
 // In clauses the counts are their four numbers.
 impl Model for Counts {
     ghost use Rattle.std.specs.Prelude.{◌≡◌, length};
-    ghost use Rattle.stamps.specs.Rows.{Four, four, listed};
+    ghost use Rattle.stamps.specs.Rows.{PerSite, per_site, site_list};
     ghost use Rattle.stamps.specs.RowLists.{listed-four};
 
-    ghost Value = { Four };
+    ghost Value = { PerSite };
 
-    ghost view = { λ c. four c.numbers };
+    ghost view = { λ c. per_site c.numbers };
 
     ghost invariant = { λ c. length c.numbers ≡ 4 };
 
-    ghost inverse = { λ x. record { numbers = listed x } };
+    ghost inverse = { λ x. record { numbers = site_list x } };
 
     ghost inverse_ok = { λ c h i. record { numbers = listed-four c.numbers h i } };
 }

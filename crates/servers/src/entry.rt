@@ -1,6 +1,6 @@
 // What a server sends to the other sites.
 ghost use Rattle.std.specs.Prelude.{◌≡◌};
-ghost use Rattle.servers.specs.Entries.{stamp_of};
+ghost use Rattle.servers.specs.Entries.{entry_stamp};
 
 use crate::version::Version;
 use stamps::stamp::Stamp;
@@ -15,7 +15,7 @@ pub enum Entry {
 
 impl Entry {
     pub(crate) fn stamp(&self) -> Stamp
-        ensures { result ≡ stamp_of self.now }
+        ensures { result ≡ entry_stamp self.now }
     {
         match self {
             Entry::Update(version) => version.stamp,

@@ -2,7 +2,7 @@
 ghost use Rattle.std.specs.Prelude.{◌≡◌, ◌≤◌, length};
 ghost use Rattle.fixed_vec.specs.Items.{items};
 ghost use Rattle.stamps.specs.Rows.{greatest};
-ghost use Rattle.servers.specs.Lefts.{OthersOnly};
+ghost use Rattle.servers.specs.Lefts.{IsOthersOnly};
 
 use crate::counts::Counts;
 use crate::entry::Entry;
@@ -20,7 +20,7 @@ pub(crate) struct Outbox {
     entries: FixedVec<Entry, MOST_ENTRIES>,
     left: Counts,
     ghost sites: { (2 ≤ peers.sites) × (peers.sites ≤ 4) },
-    ghost others: { OthersOnly peers.own peers.sites left },
+    ghost others: { IsOthersOnly peers.own peers.sites left },
     ghost needed: { greatest left ≡ length (items entries) },
 }
 

@@ -1,7 +1,7 @@
 // Which versions are shown.
 ghost use Rattle.std.specs.Prelude.{◌≡◌, Bool};
 ghost use Rattle.servers.specs.declared.version.Version.{Version};
-ghost use Rattle.servers.specs.Tables.{visible, covered};
+ghost use Rattle.servers.specs.Tables.{is_visible, is_covered};
 
 use crate::version::Version;
 use stamps::mark_kind::MarkKind;
@@ -24,7 +24,7 @@ pub(crate) struct Visible<K: MarkKind> {
 }
 
 impl<K: MarkKind> Sight for Visible<K> {
-    ghost shows = { λ s. visible K.MarkKind.kind s.site (K.MarkKind.meaning s.stable) };
+    ghost shows = { λ s. is_visible K.MarkKind.kind s.site (K.MarkKind.meaning s.stable) };
 
     fn shows(&self, version: &Version) -> bool {
         version.source == self.site || K::covers(self.stable, version.full_mark::<K>())
@@ -38,7 +38,7 @@ pub(crate) struct Covered<K: MarkKind> {
 }
 
 impl<K: MarkKind> Sight for Covered<K> {
-    ghost shows = { λ s. covered K.MarkKind.kind (K.MarkKind.meaning s.cut) };
+    ghost shows = { λ s. is_covered K.MarkKind.kind (K.MarkKind.meaning s.cut) };
 
     fn shows(&self, version: &Version) -> bool {
         K::covers(self.cut, version.full_mark::<K>())

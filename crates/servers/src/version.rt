@@ -1,6 +1,6 @@
 // One value of a key, as it was put.
 ghost use Rattle.std.specs.Prelude.{◌≡◌};
-ghost use Rattle.servers.specs.Versions.{later, full_mark};
+ghost use Rattle.servers.specs.Versions.{is_later, full_mark};
 
 use crate::value::Value;
 use stamps::mark_kind::MarkKind;
@@ -39,7 +39,7 @@ impl Version {
 
     // Whether this is the later of two versions of a key: by stamp, and at equal stamps by source.
     pub(crate) fn is_later(&self, other: &Version) -> bool
-        ensures { result ≡ later self.now other.now }
+        ensures { result ≡ is_later self.now other.now }
     {
         (self.stamp, self.source) > (other.stamp, other.source)
     }

@@ -1,51 +1,51 @@
 -- The common floor: how a loop makes it, and that it is the greatest mark that every row covers.
 use Rattle.std.proofs.Common.{◌≡◌, ℕ, ◌+◌, ◌<◌, List, [], ◌∷◌, ◌++◌, length, get_or, take, sym, ap, subst, ◌∙◌, arith, lit<}
 use Rattle.std.proofs.lemmas.List.{take_more}
-use Rattle.stamps.specs.Rows.{Four, Stamps, same, meet, Covers}
+use Rattle.stamps.specs.Rows.{PerSite, HasStamps, same, meet, Covers}
 use Rattle.stamps.specs.Stamps.{top_stamp}
-use Rattle.stamps.specs.Kinds.{Kind, LawfulKind}
-use Rattle.stamps.specs.CommonFloors.{common_floor, AllCover, GreatestCommon}
+use Rattle.stamps.specs.Kinds.{Kind, IsLawfulKind}
+use Rattle.stamps.specs.CommonFloors.{common_floor, AllCover, IsGreatestCommon}
 use Rattle.stamps.proofs.Rows.{covers_trans, meet_left, meet_right, meet_greatest, meet_assoc, meet_comm}
 
 -- one row more at the end
-common_floor_push : (k : Kind) (rs : List Four) (r : Four) → common_floor k (rs ++ r ∷ []) ≡ meet (common_floor k rs) (k.floor r)
+common_floor_push : (k : Kind) (rs : List PerSite) (r : PerSite) → common_floor k (rs ++ r ∷ []) ≡ meet (common_floor k rs) (k.floor r)
 common_floor_push k [] r = meet_comm (k.floor r) (same top_stamp)
 common_floor_push k (s ∷ rs) r =
     ap (meet (k.floor s)) (common_floor_push k rs r)
     ∙ sym (meet_assoc (k.floor s) (common_floor k rs) (k.floor r))
 
-pub common_floor_more : (k : Kind) (rs : List Four) (i : ℕ) (r : Four) → i < length rs → r ≡ get_or rs i r
+pub common_floor_more : (k : Kind) (rs : List PerSite) (i : ℕ) (r : PerSite) → i < length rs → r ≡ get_or rs i r
     → common_floor k (take (i + 1) rs) ≡ meet (common_floor k (take i rs)) (k.floor r)
 common_floor_more k rs i r h e =
     ap (λ xs. common_floor k xs) (take_more rs i r h ∙ ap (λ s. take i rs ++ (s ∷ [])) (sym e)) ∙ common_floor_push k (take i rs) r
 
-all_cover_below : (rs : List Four) (x y : Four) → Covers x y → AllCover rs x → AllCover rs y
+all_cover_below : (rs : List PerSite) (x y : PerSite) → Covers x y → AllCover rs x → AllCover rs y
 all_cover_below [] x y h a = tt
 all_cover_below (r ∷ rs) x y h a = (covers_trans r x y a.0 h, all_cover_below rs x y h a.1)
 
-floor_stamps : (k : Kind) → LawfulKind k → (r : Four) → Stamps r → Stamps (k.floor r)
+floor_stamps : (k : Kind) → IsLawfulKind k → (r : PerSite) → HasStamps r → HasStamps (k.floor r)
 floor_stamps k l r s = let b = l.floor_below r s in (omega arith, omega arith, omega arith, omega arith)
 
 -- each row is one of stamps
-abbrev pub AllStamps : List Four → Type 0
+abbrev pub AllStamps : List PerSite → Type 0
 AllStamps [] = Unit {0}
-AllStamps (r ∷ rs) = Stamps r × AllStamps rs
+AllStamps (r ∷ rs) = HasStamps r × AllStamps rs
 
-all_stamps_push : (rs : List Four) (r : Four) → AllStamps rs → Stamps r → AllStamps (rs ++ r ∷ [])
+all_stamps_push : (rs : List PerSite) (r : PerSite) → AllStamps rs → HasStamps r → AllStamps (rs ++ r ∷ [])
 all_stamps_push [] r a s = (s, tt)
 all_stamps_push (q ∷ rs) r a s = (a.0, all_stamps_push rs r a.1 s)
 
-pub all_stamps_more : (rs : List Four) (i : ℕ) (r : Four) → i < length rs → r ≡ get_or rs i r → AllStamps (take i rs) → Stamps r → AllStamps (take (i + 1) rs)
+pub all_stamps_more : (rs : List PerSite) (i : ℕ) (r : PerSite) → i < length rs → r ≡ get_or rs i r → AllStamps (take i rs) → HasStamps r → AllStamps (take (i + 1) rs)
 all_stamps_more rs i r h e a s =
     subst AllStamps (sym (take_more rs i r h ∙ ap (λ q. take i rs ++ (q ∷ [])) (sym e))) (all_stamps_push (take i rs) r a s)
 
-pub common_floor_stamps : (k : Kind) → LawfulKind k → (rs : List Four) → AllStamps rs → Stamps (common_floor k rs)
+pub common_floor_stamps : (k : Kind) → IsLawfulKind k → (rs : List PerSite) → AllStamps rs → HasStamps (common_floor k rs)
 common_floor_stamps k l [] a = (lit< tt, lit< tt, lit< tt, lit< tt)
 common_floor_stamps k l (r ∷ rs) a =
     let f = floor_stamps k l r a.0 in let g = common_floor_stamps k l rs a.1 in
     (omega arith, omega arith, omega arith, omega arith)
 
-pub common_floor_greatest : (k : Kind) → LawfulKind k → (rs : List Four) → AllStamps rs → GreatestCommon k rs (common_floor k rs)
+pub common_floor_greatest : (k : Kind) → IsLawfulKind k → (rs : List PerSite) → AllStamps rs → IsGreatestCommon k rs (common_floor k rs)
 common_floor_greatest k l [] a =
     record { means = l.same_means top_stamp (lit< tt); covered = tt; greatest = λ other s _ _. (omega arith, omega arith, omega arith, omega arith) }
 common_floor_greatest k l (r ∷ rs) a =

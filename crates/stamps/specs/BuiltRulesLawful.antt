@@ -5,17 +5,17 @@ use Rattle.stamps.specs.declared.refusal.Refusal.TheVariants.{Early, End}
 use Rattle.std.proofs.lemmas.Bool.{leb-false}
 use Rattle.std.proofs.lemmas.Bool.Decides.{nat_tests}
 use Rattle.stamps.specs.Stamps.{top_stamp, stamp_of, time_of, count_of}
-use Rattle.stamps.specs.Clocks.{LawfulRule, Allowed, raw, hybrid, new_time, new_count, carried}
+use Rattle.stamps.specs.Clocks.{IsLawfulRule, IsAllowed, raw, hybrid, new_time, new_count, carry}
 
 -- the answer, by what the two tests came to
 raw_allowed : (p q : Bool) (last reading dependency : ℕ) → reading < 2 ^ 47
     → nat_le (stamp_of reading 0) last ≡ p → nat_le (stamp_of reading 0) dependency ≡ q
-    → Allowed last dependency (cond (p || q) (Err Early) (Ok (stamp_of reading 0)))
+    → IsAllowed last dependency (cond (p || q) (Err Early) (Ok (stamp_of reading 0)))
 raw_allowed true q last reading dependency r a b = inl refl
 raw_allowed false true last reading dependency r a b = inl refl
 raw_allowed false false last reading dependency r a b = (omega (arith, leb-false), omega (arith, leb-false), omega arith)
 
-pub raw_lawful : LawfulRule raw
+pub raw_lawful : IsLawfulRule raw
 raw_lawful = record { allowed = λ last reading dependency _ r _. raw_allowed _ _ last reading dependency r refl refl }
 
 -- the count that a hybrid stamp has before the carry
@@ -24,10 +24,10 @@ count last time dependency = new_count (time_of last == time) (time_of dependenc
 
 hybrid_allowed : (p q : Bool) (last reading dependency : ℕ) → last < 2 ^ 63 → reading < 2 ^ 47 → dependency < 2 ^ 63
     → (last == top_stamp) ≡ p → (dependency == top_stamp) ≡ q
-    → Allowed last dependency (cond (p || q) (Err End) (Ok (carried (new_time last reading dependency) (count last (new_time last reading dependency) dependency))))
+    → IsAllowed last dependency (cond (p || q) (Err End) (Ok (carry (new_time last reading dependency) (count last (new_time last reading dependency) dependency))))
 hybrid_allowed true q last reading dependency l r d a b = inr refl
 hybrid_allowed false true last reading dependency l r d a b = inr refl
 hybrid_allowed false false last reading dependency l r d a b = (grind (arith, nat_tests), grind (arith, nat_tests), grind (arith, nat_tests))
 
-pub hybrid_lawful : LawfulRule hybrid
+pub hybrid_lawful : IsLawfulRule hybrid
 hybrid_lawful = record { allowed = λ last reading dependency l r d. hybrid_allowed _ _ last reading dependency l r d refl refl }

@@ -2,7 +2,7 @@
 use Rattle.std.specs.Prelude.{ℕ, ◌^◌, Bool, cond, ◌&&◌, List, Ok, Err, Result, nat_lt}
 use Rattle.stamps.specs.declared.refusal.Refusal.{Refusal}
 use Rattle.stamps.specs.declared.refusal.Refusal.TheVariants.{NotInLayout, Unlawful}
-use Rattle.stamps.specs.Rows.{Four, four}
+use Rattle.stamps.specs.Rows.{PerSite, per_site}
 
 abbrev pub is_stamp : ℕ → Bool
 is_stamp n = nat_lt n (2 ^ 63)
@@ -16,7 +16,7 @@ checked_reading n = cond (nat_lt n (2 ^ 47)) (Ok n) (Err Unlawful)
 abbrev pub checked_site : ℕ → Result ℕ Refusal
 checked_site n = cond (nat_lt n 4) (Ok n) (Err NotInLayout)
 
-abbrev pub checked_row : List ℕ → Result Four Refusal
+abbrev pub checked_row : List ℕ → Result PerSite Refusal
 checked_row xs =
-    let x = four xs in
+    let x = per_site xs in
     cond (is_stamp x.site0 && (is_stamp x.site1 && (is_stamp x.site2 && is_stamp x.site3))) (Ok x) (Err Unlawful)

@@ -5,12 +5,12 @@ use Rattle.stamps.specs.declared.refusal.Refusal.TheVariants.{Early, End}
 use Rattle.stamps.specs.Stamps.{top_stamp, stamp_of, time_of, count_of}
 
 -- what a rule may answer: a stamp above both that it was given, or early, or end
-abbrev pub Allowed : ℕ → ℕ → Result ℕ Refusal → Type 0
-Allowed last dependency (Ok stamp) = (last < stamp) × (dependency < stamp) × (stamp < 2 ^ 63)
-Allowed last dependency (Err why) = (why ≡ Early) ⊎ (why ≡ End)
+abbrev pub IsAllowed : ℕ → ℕ → Result ℕ Refusal → Type 0
+IsAllowed last dependency (Ok stamp) = (last < stamp) × (dependency < stamp) × (stamp < 2 ^ 63)
+IsAllowed last dependency (Err why) = (why ≡ Early) ⊎ (why ≡ End)
 
-pub record LawfulRule (answer : ℕ → ℕ → ℕ → Result ℕ Refusal) : Type 0 where
-  pub allowed : (last reading dependency : ℕ) → last < 2 ^ 63 → reading < 2 ^ 47 → dependency < 2 ^ 63 → Allowed last dependency (answer last reading dependency)
+pub record IsLawfulRule (answer : ℕ → ℕ → ℕ → Result ℕ Refusal) : Type 0 where
+  pub allowed : (last reading dependency : ℕ) → last < 2 ^ 63 → reading < 2 ^ 47 → dependency < 2 ^ 63 → IsAllowed last dependency (answer last reading dependency)
 
 -- raw: the reading's first stamp, if that is above both
 abbrev pub raw : ℕ → ℕ → ℕ → Result ℕ Refusal
@@ -29,11 +29,11 @@ new_count false true of_last of_dependency = of_dependency + 1
 new_count false false of_last of_dependency = 0
 
 -- a count that passes 65,535 makes the time one more and the count 0
-abbrev pub carried : ℕ → ℕ → ℕ
-carried time count = cond (nat_lt 65535 count) (stamp_of (time + 1) 0) (stamp_of time count)
+abbrev pub carry : ℕ → ℕ → ℕ
+carry time count = cond (nat_lt 65535 count) (stamp_of (time + 1) 0) (stamp_of time count)
 
 abbrev pub hybrid : ℕ → ℕ → ℕ → Result ℕ Refusal
 hybrid last reading dependency =
     let time = new_time last reading dependency in
     cond (last == top_stamp || dependency == top_stamp) (Err End)
-    (Ok (carried time (new_count (time_of last == time) (time_of dependency == time) (count_of last) (count_of dependency))))
+    (Ok (carry time (new_count (time_of last == time) (time_of dependency == time) (count_of last) (count_of dependency))))

@@ -3,7 +3,7 @@ use Rattle.std.specs.Prelude.{◌≡◌, ℕ, List, [], ◌∷◌, ◌++◌, ℤ
 use Rattle.stamps.specs.declared.refusal.Refusal.{Refusal}
 use Rattle.stamps.specs.declared.refusal.Refusal.TheVariants.{Early}
 use Rattle.stamps.specs.Stamps.{stamp_of}
-use Rattle.stamps.specs.Rows.{Four, same}
+use Rattle.stamps.specs.Rows.{PerSite, same}
 use Rattle.stamps.specs.Clocks.{raw, hybrid}
 use Rattle.stamps.specs.Outside.{signed_number}
 use Rattle.stamps.specs.BuiltKinds.{one_kind, each_kind}
@@ -12,9 +12,9 @@ pub data Edge : Type 0 where
   -- a rule, the last stamp, the reading, the dependency, and the answer
   stamped : (ℕ → ℕ → ℕ → Result ℕ Refusal) → ℕ → ℕ → ℕ → Result ℕ Refusal → Edge
   -- a kind's floor, a row, and the floor of that row
-  floored : (Four → Four) → Four → Four → Edge
+  floored : (PerSite → PerSite) → PerSite → PerSite → Edge
 
-abbrev pub row5394 : Four
+abbrev pub row5394 : PerSite
 row5394 = record { site0 = 5; site1 = 3; site2 = 9; site3 = 4 }
 
 abbrev pub edges : List Edge
@@ -38,7 +38,7 @@ AllHold [] = Unit {0}
 AllHold (e ∷ es) = Holds e × AllHold es
 
 -- the numbers of an edge's answer
-abbrev pub entries_of : Four → List ℤ
+abbrev pub entries_of : PerSite → List ℤ
 entries_of row = pos row.site0 ∷ pos row.site1 ∷ pos row.site2 ∷ pos row.site3 ∷ []
 
 abbrev pub answer_of : Edge → List ℤ

@@ -3,7 +3,7 @@ use Rattle.std.specs.Prelude.{ℕ, ℤ, pos, neg_ℤ, Ok, Err, Result, List}
 use Rattle.stamps.specs.declared.refusal.Refusal.{Refusal}
 use Rattle.stamps.specs.Refusals.{number_of}
 use Rattle.stamps.specs.Checks.{checked_stamp, checked_reading, checked_site, checked_row}
-use Rattle.stamps.specs.Rows.{Four}
+use Rattle.stamps.specs.Rows.{PerSite}
 use Rattle.stamps.specs.Kinds.{Kind}
 
 -- the next step with what a check has passed, or its refusal
@@ -11,8 +11,8 @@ abbrev pub and_then : {A B : Type 0} → Result A Refusal → (A → Result B Re
 and_then (Ok x) next = next x
 and_then (Err why) next = Err why
 
-abbrev pub asked_stamp : (ℕ → ℕ → ℕ → Result ℕ Refusal) → ℕ → ℕ → ℕ → Result ℕ Refusal
-asked_stamp rule last reading dependency =
+abbrev pub stamp_from : (ℕ → ℕ → ℕ → Result ℕ Refusal) → ℕ → ℕ → ℕ → Result ℕ Refusal
+stamp_from rule last reading dependency =
     and_then (checked_stamp last) (λ l. and_then (checked_stamp dependency) (λ d. and_then (checked_reading reading) (λ r. rule l r d)))
 
 -- an answer as one signed number
@@ -20,13 +20,13 @@ abbrev pub signed_number : Result ℕ Refusal → ℤ
 signed_number (Ok stamp) = pos stamp
 signed_number (Err why) = neg_ℤ (pos (number_of why))
 
-abbrev pub asked_floor : Kind → List ℕ → Result Four Refusal
-asked_floor k entries = and_then (checked_row entries) (λ row. Ok (k.floor row))
+abbrev pub floor_from : Kind → List ℕ → Result PerSite Refusal
+floor_from k entries = and_then (checked_row entries) (λ row. Ok (k.floor row))
 
-abbrev pub asked_lift : Kind → ℕ → ℕ → Result Four Refusal
-asked_lift k site stamp = and_then (checked_stamp stamp) (λ s. and_then (checked_site site) (λ i. Ok (k.lift i s)))
+abbrev pub lift_from : Kind → ℕ → ℕ → Result PerSite Refusal
+lift_from k site stamp = and_then (checked_stamp stamp) (λ s. and_then (checked_site site) (λ i. Ok (k.lift i s)))
 
 -- the row of the mark that was answered, or the refusal
-abbrev pub answered_row : {Mark : Type 0} → (Mark → Four) → Result Mark Refusal → Result Four Refusal
-answered_row meaning (Ok mark) = Ok (meaning mark)
-answered_row meaning (Err why) = Err why
+abbrev pub row_or_refusal : {Mark : Type 0} → (Mark → PerSite) → Result Mark Refusal → Result PerSite Refusal
+row_or_refusal meaning (Ok mark) = Ok (meaning mark)
+row_or_refusal meaning (Err why) = Err why

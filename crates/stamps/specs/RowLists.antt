@@ -1,9 +1,9 @@
 -- A row gives its list of four back. The proof of a model's law has to stand in specs/.
 use Rattle.std.specs.Prelude.{◌≡◌, ℕ, List, [], ◌∷◌, length, refl}
 use Rattle.std.proofs.Common.{arith}
-use Rattle.stamps.specs.Rows.{four, listed}
+use Rattle.stamps.specs.Rows.{per_site, site_list}
 
-pub listed-four : (xs : List ℕ) → length xs ≡ 4 → listed (four xs) ≡ xs
+pub listed-four : (xs : List ℕ) → length xs ≡ 4 → site_list (per_site xs) ≡ xs
 listed-four (a ∷ b ∷ c ∷ d ∷ []) h = refl
 listed-four [] h = absurd (omega arith)
 listed-four (a ∷ []) h = absurd (omega arith)

@@ -1,42 +1,42 @@
 -- Rows: four stamps, one for each site number.
 use Rattle.std.specs.Prelude.{ℕ, ◌^◌, ◌<◌, ◌≤◌, min, max, Bool, cond, ◌&&◌, List, [], ◌∷◌, ◌==◌, nat_le, slice_index}
 
-pub record Four : Type 0 where
+pub record PerSite : Type 0 where
   pub site0 : ℕ
   pub site1 : ℕ
   pub site2 : ℕ
   pub site3 : ℕ
 
 -- the four numbers of a list, by their places
-abbrev pub four : List ℕ → Four
-four xs = record { site0 = slice_index xs 0; site1 = slice_index xs 1; site2 = slice_index xs 2; site3 = slice_index xs 3 }
+abbrev pub per_site : List ℕ → PerSite
+per_site xs = record { site0 = slice_index xs 0; site1 = slice_index xs 1; site2 = slice_index xs 2; site3 = slice_index xs 3 }
 
 -- the same as a list
-abbrev pub listed : Four → List ℕ
-listed x = x.site0 ∷ x.site1 ∷ x.site2 ∷ x.site3 ∷ []
+abbrev pub site_list : PerSite → List ℕ
+site_list x = x.site0 ∷ x.site1 ∷ x.site2 ∷ x.site3 ∷ []
 
-abbrev pub row_of : ℕ → ℕ → ℕ → ℕ → Four
+abbrev pub row_of : ℕ → ℕ → ℕ → ℕ → PerSite
 row_of a b c d = record { site0 = a; site1 = b; site2 = c; site3 = d }
 
 -- each entry is a stamp
-abbrev pub Stamps : Four → Type 0
-Stamps x = (x.site0 < 2 ^ 63) × (x.site1 < 2 ^ 63) × (x.site2 < 2 ^ 63) × (x.site3 < 2 ^ 63)
+abbrev pub HasStamps : PerSite → Type 0
+HasStamps x = (x.site0 < 2 ^ 63) × (x.site1 < 2 ^ 63) × (x.site2 < 2 ^ 63) × (x.site3 < 2 ^ 63)
 
 -- the entry of a site
-abbrev pub at : Four → ℕ → ℕ
+abbrev pub at : PerSite → ℕ → ℕ
 at x site = cond (site == 0) x.site0 (cond (site == 1) x.site1 (cond (site == 2) x.site2 x.site3))
 
 -- the same stamp at each site
-abbrev pub same : ℕ → Four
+abbrev pub same : ℕ → PerSite
 same s = record { site0 = s; site1 = s; site2 = s; site3 = s }
 
 -- a stamp at one site, and 0 at the others
-abbrev pub only : ℕ → ℕ → Four
+abbrev pub only : ℕ → ℕ → PerSite
 only site s =
     record { site0 = cond (site == 0) s 0; site1 = cond (site == 1) s 0; site2 = cond (site == 2) s 0; site3 = cond (site == 3) s 0 }
 
 -- another stamp at one site
-abbrev pub with_entry : Four → ℕ → ℕ → Four
+abbrev pub with_entry : PerSite → ℕ → ℕ → PerSite
 with_entry x site s =
     record {
       site0 = cond (site == 0) s x.site0;
@@ -46,27 +46,27 @@ with_entry x site s =
     }
 
 -- x covers y: it is at least as high at each entry
-abbrev pub Covers : Four → Four → Type 0
+abbrev pub Covers : PerSite → PerSite → Type 0
 Covers x y = (y.site0 ≤ x.site0) × (y.site1 ≤ x.site1) × (y.site2 ≤ x.site2) × (y.site3 ≤ x.site3)
 
 -- the same, as a test
-abbrev pub covers : Four → Four → Bool
+abbrev pub covers : PerSite → PerSite → Bool
 covers x y = nat_le y.site0 x.site0 && (nat_le y.site1 x.site1 && (nat_le y.site2 x.site2 && nat_le y.site3 x.site3))
 
 -- the greater at each entry
-abbrev pub join : Four → Four → Four
+abbrev pub join : PerSite → PerSite → PerSite
 join x y =
     record { site0 = max x.site0 y.site0; site1 = max x.site1 y.site1; site2 = max x.site2 y.site2; site3 = max x.site3 y.site3 }
 
 -- the lesser at each entry
-abbrev pub meet : Four → Four → Four
+abbrev pub meet : PerSite → PerSite → PerSite
 meet x y =
     record { site0 = min x.site0 y.site0; site1 = min x.site1 y.site1; site2 = min x.site2 y.site2; site3 = min x.site3 y.site3 }
 
 -- the greatest of the four
-abbrev pub greatest : Four → ℕ
+abbrev pub greatest : PerSite → ℕ
 greatest x = max (max x.site0 x.site1) (max x.site2 x.site3)
 
 -- the least of the four
-abbrev pub least : Four → ℕ
+abbrev pub least : PerSite → ℕ
 least x = min (min x.site0 x.site1) (min x.site2 x.site3)

@@ -1,7 +1,7 @@
 // What a clock rule is.
 ghost use Rattle.std.specs.Prelude.{◌≡◌, ℕ, Result};
 ghost use Rattle.stamps.specs.declared.refusal.Refusal.{Refusal};
-ghost use Rattle.stamps.specs.Clocks.{Allowed, LawfulRule};
+ghost use Rattle.stamps.specs.Clocks.{IsAllowed, IsLawfulRule};
 
 use crate::reading::Reading;
 use crate::refusal::Refusal;
@@ -15,8 +15,8 @@ pub trait ClockRule {
     // The three are all that a rule is asked. No struct has them: nothing keeps them together before or after.
     fn stamp(last: Stamp, reading: Reading, dependency: Stamp) -> Result<Stamp, Refusal>
         ensures value { result ≡ answer last reading dependency }
-        ensures allowed { Allowed last dependency result };
+        ensures allowed { IsAllowed last dependency result };
 
     // The whole meaning of a rule: an answered stamp is above both stamps, and a refusal is early or end.
-    ghost lawful: { LawfulRule answer };
+    ghost lawful: { IsLawfulRule answer };
 }

@@ -2,7 +2,7 @@
 ghost use Rattle.std.specs.Prelude.{◌≡◌};
 ghost use Rattle.stamps.specs.Rows.{same};
 ghost use Rattle.stamps.specs.Stamps.{top_stamp};
-ghost use Rattle.stamps.specs.CommonFloors.{common_floor, GreatestCommon};
+ghost use Rattle.stamps.specs.CommonFloors.{common_floor, IsGreatestCommon};
 
 use crate::mark_kind::MarkKind;
 use crate::row::Row;
@@ -12,7 +12,7 @@ use crate::stamp::Stamp;
 // Each row is taken as a mark by the kind's floor.
 pub fn common_floor<K: MarkKind>(rows: &[Row]) -> K::Mark
     ensures value { K.MarkKind.meaning result ≡ common_floor K.MarkKind.kind rows.now }
-    ensures greatest { GreatestCommon K.MarkKind.kind rows.now (K.MarkKind.meaning result) }
+    ensures greatest { IsGreatestCommon K.MarkKind.kind rows.now (K.MarkKind.meaning result) }
 {
     lowered::<K>(top_mark::<K>(), rows)
 }
@@ -28,7 +28,7 @@ fn top_mark<K: MarkKind>() -> K::Mark
 fn lowered<K: MarkKind>(top: K::Mark, rows: &[Row]) -> K::Mark
     requires { K.MarkKind.meaning top ≡ same top_stamp }
     ensures value { K.MarkKind.meaning result ≡ common_floor K.MarkKind.kind rows.now }
-    ensures greatest { GreatestCommon K.MarkKind.kind rows.now (K.MarkKind.meaning result) }
+    ensures greatest { IsGreatestCommon K.MarkKind.kind rows.now (K.MarkKind.meaning result) }
 {
     let mut mark = top;
     for row in rows {

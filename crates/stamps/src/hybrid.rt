@@ -1,6 +1,6 @@
 // The hybrid logical clock: the greatest time known, and a count within it.
 ghost use Rattle.std.specs.Prelude.{◌≡◌, ◌+◌, ◌^◌, ◌<◌, ◌≤◌};
-ghost use Rattle.stamps.specs.Clocks.{hybrid as hybrid_rule, carried};
+ghost use Rattle.stamps.specs.Clocks.{hybrid as hybrid_rule, carry};
 ghost use Rattle.stamps.specs.Stamps.{stamp_of};
 ghost use Rattle.stamps.specs.BuiltRulesLawful.{hybrid_lawful};
 
@@ -34,7 +34,7 @@ impl ClockRule for Hybrid {
 // The stamp of a time and a count; a count that passes its 16 bits becomes one more of the time.
 fn carry(time: u64, count: u64) -> Stamp
     requires { (stamp_of time count < 2 ^ 63) × (count ≤ 65536) }
-    ensures { result ≡ carried time count }
+    ensures { result ≡ carry time count }
 {
     if count >= COUNTS {
         Stamp::of(time + 1, 0)

@@ -1,7 +1,7 @@
 // What a kind of mark is.
 ghost use Rattle.std.specs.Prelude.{◌≡◌, ℕ};
-ghost use Rattle.stamps.specs.Rows.{Four, Stamps, covers, join, meet};
-ghost use Rattle.stamps.specs.Kinds.{Kind, IsMark, LawfulKind};
+ghost use Rattle.stamps.specs.Rows.{PerSite, HasStamps, covers, join, meet};
+ghost use Rattle.stamps.specs.Kinds.{Kind, IsMark, IsLawfulKind};
 
 use crate::row::Row;
 use crate::site::Site;
@@ -21,7 +21,7 @@ pub trait MarkKind {
     ghost kind: { Kind };
 
     // The row of a mark.
-    ghost meaning: { Self.Mark → Four };
+    ghost meaning: { Self.Mark → PerSite };
 
     fn column_count() -> usize
         ensures { result ≡ kind.columns }
@@ -50,14 +50,14 @@ pub trait MarkKind {
     fn floor(row: Row) -> Self::Mark
         ensures value { meaning result ≡ kind.floor row }
         ensures means { IsMark kind (meaning result) }
-        ensures stamps { Stamps row };
+        ensures stamps { HasStamps row };
 
     // The least mark with at least this stamp at this site.
     fn lift(site: Site, stamp: Stamp) -> Self::Mark
         ensures { meaning result ≡ kind.lift site stamp };
 
     // The whole meaning of a kind.
-    ghost lawful: { LawfulKind kind };
+    ghost lawful: { IsLawfulKind kind };
 
     // The constant is the kind's number of columns.
     ghost counted: { COLUMNS ≡ kind.columns };

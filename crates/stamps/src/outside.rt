@@ -1,6 +1,6 @@
 // Clock rules and kinds of mark, asked with plain numbers: these are checked first, stamps before readings and sites.
 ghost use Rattle.std.specs.Prelude.{◌≡◌};
-ghost use Rattle.stamps.specs.Outside.{asked_stamp, signed_number, asked_floor, asked_lift, answered_row};
+ghost use Rattle.stamps.specs.Outside.{stamp_from, signed_number, floor_from, lift_from, row_or_refusal};
 
 use crate::clock_rule::ClockRule;
 use crate::mark_kind::MarkKind;
@@ -12,7 +12,7 @@ use crate::stamp::Stamp;
 
 // The stamp that a rule answers to three numbers.
 pub fn stamp_from<C: ClockRule>(last: u64, reading: u64, dependency: u64) -> Result<Stamp, Refusal>
-    ensures { result ≡ asked_stamp C.ClockRule.answer last reading dependency }
+    ensures { result ≡ stamp_from C.ClockRule.answer last reading dependency }
 {
     let last = Stamp::try_from(last)?;
     let dependency = Stamp::try_from(dependency)?;
@@ -32,21 +32,21 @@ fn signed(answer: Result<Stamp, Refusal>) -> i64
 
 // A rule on plain numbers alone.
 pub fn signed_stamp<C: ClockRule>(last: u64, reading: u64, dependency: u64) -> i64
-    ensures { result ≡ signed_number (asked_stamp C.ClockRule.answer last reading dependency) }
+    ensures { result ≡ signed_number (stamp_from C.ClockRule.answer last reading dependency) }
 {
     signed(stamp_from::<C>(last, reading, dependency))
 }
 
 // The floor of four numbers as a row.
 pub fn floor_from<K: MarkKind>(entries: [u64; 4]) -> Result<K::Mark, Refusal>
-    ensures { answered_row K.MarkKind.meaning result ≡ asked_floor K.MarkKind.kind entries }
+    ensures { row_or_refusal K.MarkKind.meaning result ≡ floor_from K.MarkKind.kind entries }
 {
     Ok(K::floor(Row::try_from(entries)?))
 }
 
 // The lift of a site and a stamp.
 pub fn lift_from<K: MarkKind>(site: u8, stamp: u64) -> Result<K::Mark, Refusal>
-    ensures { answered_row K.MarkKind.meaning result ≡ asked_lift K.MarkKind.kind site stamp }
+    ensures { row_or_refusal K.MarkKind.meaning result ≡ lift_from K.MarkKind.kind site stamp }
 {
     let stamp = Stamp::try_from(stamp)?;
     let site = Site::try_from(site)?;

@@ -9,15 +9,15 @@ pub struct Row {
 // In clauses a row is its four numbers.
 impl Model for Row {
     ghost use Rattle.std.specs.Prelude.{◌≡◌, length};
-    ghost use Rattle.stamps.specs.Rows.{Four, Stamps, four, listed};
+    ghost use Rattle.stamps.specs.Rows.{PerSite, HasStamps, per_site, site_list};
 
-    ghost Value = { Four };
+    ghost Value = { PerSite };
 
-    ghost view = { λ r. four r.entries };
+    ghost view = { λ r. per_site r.entries };
 
-    ghost invariant = { λ r. (length r.entries ≡ 4) × Stamps (four r.entries) };
+    ghost invariant = { λ r. (length r.entries ≡ 4) × HasStamps (per_site r.entries) };
 
-    ghost inverse = { λ x. record { entries = listed x } };
+    ghost inverse = { λ x. record { entries = site_list x } };
 
     ghost use Rattle.stamps.specs.RowLists.{listed-four};
 

@@ -3,11 +3,11 @@ use Rattle.std.proofs.Common.{◌≡◌, ℕ, ◌<◌, Some, None, Option, sym, 
 use Rattle.std.proofs.lemmas.Bool.{cases_eq}
 use Rattle.stamps.specs.Kinds.{Kind}
 use Rattle.servers.specs.declared.entry.Entry.TheVariants.{Update}
-use Rattle.servers.specs.Laws.{In, IsLatest}
+use Rattle.servers.specs.Laws.{IsIn, IsLatest}
 use Rattle.servers.specs.declared.version.Version.{Version}
-use Rattle.group.specs.Model.Events.{AsLate, History}
+use Rattle.group.specs.Model.Events.{IsAsLate, History}
 use Rattle.group.specs.Model.Groups.{GroupState}
-use Rattle.group.specs.Model.GroupStore.{AllTaken, held_at}
+use Rattle.group.specs.Model.GroupStore.{IsAllTaken, versions_at}
 use Rattle.group.specs.Model.Promises.{any_version}
 use Rattle.group.proofs.Model.Invariant.{Shape, Ghost, name_of, part, Had}
 use Rattle.group.proofs.Model.Effects.{part_small}
@@ -16,22 +16,22 @@ use Rattle.group.proofs.Model.Showing.{as_late_trans, same_time, stands_late}
 use Rattle.group.proofs.Model.Histories.{Inv}
 use Rattle.group.proofs.Model.SessionLines.{held_from, held_in}
 
-module _ {k : Kind} {sites : ℕ} {h : History} {g : GroupState} {G : Ghost} (v : Inv k sites h g G) (quiet : AllTaken g) where
+module _ {k : Kind} {sites : ℕ} {h : History} {g : GroupState} {G : Ghost} (v : Inv k sites h g G) (quiet : IsAllTaken g) where
   abbrev L : Shape
   L = shape g v.frame.layout.few_sites v.frame.layout.some_partitions
 
   -- every site has every version
-  had : (w : Version) (s : ℕ) → s < g.sites → In w G.log → Had L (λ a b. (g.server a b).marks.received) s w
+  had : (w : Version) (s : ℕ) → s < g.sites → IsIn w G.log → Had L (λ a b. (g.server a b).marks.received) s w
   had w s l i = ⊎_elim
       (λ e. subst (λ (z : ℕ). Had L (λ a b. (g.server a b).marks.received) z w) (sym e) (v.core.logs.stamped w i))
       (λ ne. ⊎_elim (λ r. r)
-      (λ p. absurd (subst (In (Update w)) (quiet w.source s (part L w.key) (v.core.logs.source w i) l (part_small L w.key)) p))
+      (λ p. absurd (subst (IsIn (Update w)) (quiet w.source s (part L w.key) (v.core.logs.source w i) l (part_small L w.key)) p))
       (v.core.queues.reach w s i l ne))
       (cases_eq s w.source)
 
   -- whatever one site holds, another holds too, or a later version of that key
-  other : (w : Version) (s t key : ℕ) → t < g.sites → In w (held_at g s) → w.key ≡ key →
-      In w G.log × ((u : Version) × In u (held_at g t) × (u.key ≡ key) × AsLate (name_of u) (name_of w))
+  other : (w : Version) (s t key : ℕ) → t < g.sites → IsIn w (versions_at g s) → w.key ≡ key →
+      IsIn w G.log × ((u : Version) × IsIn u (versions_at g t) × (u.key ≡ key) × IsAsLate (name_of u) (name_of w))
   other w s t key l i e =
       let r = held_from g s w i in
       let o = v.core.holds.had w s r.0 r.2 in
@@ -39,7 +39,7 @@ module _ {k : Kind} {sites : ℕ} {h : History} {g : GroupState} {G : Ghost} (v 
       (o.0, (x.other, held_in g t (part L w.key) x.other (part_small L w.key) x.there, x.same_key ∙ e, stands_late x))
 
   pub agree : (s t key : ℕ) → s < g.sites → t < g.sites → (a b : Option Version) →
-      IsLatest any_version key (held_at g s) a → IsLatest any_version key (held_at g t) b → a ≡ b
+      IsLatest any_version key (versions_at g s) a → IsLatest any_version key (versions_at g t) b → a ≡ b
   agree s t key ls lt None None p q = refl
   agree s t key ls lt None (Some w) p q = let u = (other w t s key ls q.0 q.1.0).1 in absurd (p u.0 u.1 (u.2, refl))
   agree s t key ls lt (Some w) None p q = let u = (other w s t key lt p.0 p.1.0).1 in absurd (q u.0 u.1 (u.2, refl))

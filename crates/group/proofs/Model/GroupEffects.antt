@@ -1,9 +1,9 @@
 -- The invariant of a group with one server, one session or one seat replaced.
 use Rattle.std.proofs.Common.{◌≡◌, ℕ, suc, ◌<◌, ◌≤◌, List, [], ◌∷◌, ◌++◌, length, Some, None, Option, sym, refl, ap, ◌∙◌, subst, arith}
-use Rattle.stamps.specs.Rows.{Four, Stamps, Covers, join}
-use Rattle.stamps.specs.Kinds.{Kind, IsMark, LawfulKind}
+use Rattle.stamps.specs.Rows.{PerSite, HasStamps, Covers, join}
+use Rattle.stamps.specs.Kinds.{Kind, IsMark, IsLawfulKind}
 use Rattle.servers.specs.declared.entry.Entry.{Entry}
-use Rattle.servers.specs.Servers.{MarksState, ServerState, raised as raised_server, reporting, tidied_up}
+use Rattle.servers.specs.Servers.{MarksState, ServerState, server_raise as raised_server, server_report, server_tidy}
 use Rattle.servers.specs.declared.version.Version.{Version}
 use Rattle.group.specs.Model.Calls.{safe_mark}
 use Rattle.group.specs.Model.Groups.{GroupState, SessionState, SeatState, new_session, session_at, seat_at, with_server, with_sessions, with_session, with_seat}
@@ -27,7 +27,7 @@ abbrev pub with_servers : GroupState → (ℕ → ℕ → ServerState) → Group
 with_servers g server =
     record { sites = g.sites; partitions = g.partitions; server = server; sessions = g.sessions; seats = g.seats; next_serial = g.next_serial }
 
-module _ {k : Kind} (law : LawfulKind k) {P : Pasts} {G : Ghost} (g : GroupState) (four : g.sites ≤ 4) (some : 1 ≤ g.partitions)
+module _ {k : Kind} (law : IsLawfulKind k) {P : Pasts} {G : Ghost} (g : GroupState) (four : g.sites ≤ 4) (some : 1 ≤ g.partitions)
     (h : Core k (shape g four some) P (tables k g) G) where
   cut_stamps : (a : ℕ) (y : SeatState) → seat_at g a ≡ Some y → IsMark k y.cut
   cut_stamps a y e = let o = h.seats a y e in subst (IsMark k) (sym o.its_cut) (h.cuts.cut_mark y.serial o.issued)
@@ -56,7 +56,7 @@ module _ {k : Kind} (law : LawfulKind k) {P : Pasts} {G : Ghost} (g : GroupState
       (λ _. covers_self (g.server i m).marks.stable))
 
   -- server (s, n) becomes x: the tables that the invariant was shown of are those of the group then
-  pub place_server : {Q : Pasts} {G' : Ghost} (s n : ℕ) (x : ServerState) {held : ℕ → ℕ → List Version} {received reported stable : ℕ → ℕ → Four} {waits : ℕ → ℕ → ℕ → List Entry} →
+  pub place_server : {Q : Pasts} {G' : Ghost} (s n : ℕ) (x : ServerState) {held : ℕ → ℕ → List Version} {received reported stable : ℕ → ℕ → PerSite} {waits : ℕ → ℕ → ℕ → List Entry} →
       set2 (λ i m. (g.server i m).held) s n x.held ≡ held →
       set2 (λ i m. (g.server i m).marks.received) s n x.marks.received ≡ received →
       set2 (λ i m. (g.server i m).marks.reported) s n x.marks.reported ≡ reported →
@@ -69,10 +69,10 @@ module _ {k : Kind} (law : LawfulKind k) {P : Pasts} {G : Ghost} (g : GroupState
       subst (λ (T : Tables). Core k (shape g four some) Q T G') (sym (tables_server k g s n x a b c d e)) (safer (safe_mark k (with_server g s n x)) (λ s' _. safe_server s n x mk up s') core)
 
   same_safe : (s n : ℕ) (x : ServerState) → x.marks.stable ≡ (g.server s n).marks.stable → (s' : ℕ) → Covers (safe_mark k (with_server g s n x) s') (safe_mark k g s')
-  same_safe s n x e = safe_server s n x (subst (IsMark k) (sym e) (h.marks.stable_mark s n)) (subst (λ (m : Four). Covers m (g.server s n).marks.stable) (sym e) (covers_self (g.server s n).marks.stable))
+  same_safe s n x e = safe_server s n x (subst (IsMark k) (sym e) (h.marks.stable_mark s n)) (subst (λ (m : PerSite). Covers m (g.server s n).marks.stable) (sym e) (covers_self (g.server s n).marks.stable))
 
   -- mark m, below what the site has received, is joined into a stable mark
-  pub raise_server : (s n : ℕ) (m : Four) → IsMark k m → Below (shape g four some) (λ i j. (g.server i j).marks.received) s m →
+  pub raise_server : (s n : ℕ) (m : PerSite) → IsMark k m → Below (shape g four some) (λ i j. (g.server i j).marks.received) s m →
       Core k (shape g four some) P (tables k (with_server g s n (raised_server k (g.server s n) m))) G
   raise_server s n m mk b =
       let stable = (g.server s n).marks.stable in
@@ -86,9 +86,9 @@ module _ {k : Kind} (law : LawfulKind k) {P : Pasts} {G : Ghost} (g : GroupState
       (sym (tables_server k g s n new (set2_same _ s n _ refl) (set2_same _ s n _ refl) (set2_same _ s n _ refl) refl (set2_same _ s n _ refl)))
       (safer (safe_mark k (with_server g s n new)) (λ s' _. safe_server s n new nm up s') (raised s n (join (k.floor stable) m) nm up low h))
 
-  pub report_server : (s n : ℕ) → Core k (shape g four some) P (tables k (with_server g s n (reporting k (g.server s n)))) G
+  pub report_server : (s n : ℕ) → Core k (shape g four some) P (tables k (with_server g s n (server_report k (g.server s n)))) G
   report_server s n =
-      let new = reporting k (g.server s n) in
+      let new = server_report k (g.server s n) in
       let st = h.marks.received_stamps s n in
       subst (λ (T : Tables). Core k (shape g four some) P T G)
       (sym (tables_server k g s n new (set2_same _ s n _ refl) (set2_same _ s n _ refl) refl (set2_same _ s n _ refl) (set2_same _ s n _ refl)))
@@ -102,9 +102,9 @@ module _ {k : Kind} (law : LawfulKind k) {P : Pasts} {G : Ghost} (g : GroupState
       (sym (tables_server k g s n new (set2_same _ s n _ a) (set2_same _ s n _ (ap (λ (m : MarksState). m.received) b)) (set2_same _ s n _ (ap (λ (m : MarksState). m.reported) b)) (set2_same _ s n _ (ap (λ (m : MarksState). m.stable) b)) (set2_same _ s n _ c)))
       (safer (safe_mark k (with_server g s n new)) (λ s' _. same_safe s n new (ap (λ (m : MarksState). m.stable) b) s') h)
 
-  pub tidy_server : (s n : ℕ) → Core k (shape g four some) P (tables k (with_server g s n (tidied_up k (g.server s n) (safe_mark k g s)).1)) G
+  pub tidy_server : (s n : ℕ) → Core k (shape g four some) P (tables k (with_server g s n (server_tidy k (g.server s n) (safe_mark k g s)).1)) G
   tidy_server s n =
-      let new = (tidied_up k (g.server s n) (safe_mark k g s)).1 in
+      let new = (server_tidy k (g.server s n) (safe_mark k g s)).1 in
       subst (λ (T : Tables). Core k (shape g four some) P T G)
       (sym (tables_server k g s n new refl (set2_same _ s n _ refl) (set2_same _ s n _ refl) (set2_same _ s n _ refl) (set2_same _ s n _ refl)))
       (safer (safe_mark k (with_server g s n new)) (λ s' _. same_safe s n new refl s') (tidied_too s n h))
@@ -143,7 +143,7 @@ module _ {k : Kind} (law : LawfulKind k) {P : Pasts} {G : Ghost} (g : GroupState
       let at_seat : (b : ℕ) (y : SeatState) → seat_at (with_seat g a o next) b ≡ Some y → set1 (seat_at g) a o b ≡ Some y = λ b y e. sym (ap (λ (f : ℕ → Option SeatState). f b) (get_d_set g.seats a o None l)) ∙ e in
       safe_covers law (with_seat g a o next) s
       (rows_stamps (with_seat g a o next) s (λ n. (h.marks.stable_mark s n).0)
-      (λ b y e. set1_cases (seat_at g) a o b (λ z. z ≡ Some y → Stamps y.cut) (λ _ f. (fits y f).0.0) (λ _ f. (cut_stamps b y f).0) (at_seat b y e)))
+      (λ b y e. set1_cases (seat_at g) a o b (λ z. z ≡ Some y → HasStamps y.cut) (λ _ f. (fits y f).0.0) (λ _ f. (cut_stamps b y f).0) (at_seat b y e)))
       (safe_mark k g s) (safe_mark_lem law g s (safe_rows_lem s))
       (λ n ln. safe_stable law g s (safe_rows_lem s) n ln)
       (λ b y e at_s. set1_cases (seat_at g) a o b (λ z. z ≡ Some y → Covers y.cut (safe_mark k g s))
@@ -157,7 +157,7 @@ module _ {k : Kind} (law : LawfulKind k) {P : Pasts} {G : Ghost} (g : GroupState
       (safer (safe_mark k (with_seat g a None g.next_serial)) (λ s _. safe_seat a None g.next_serial l (λ y e. absurd (not_some e)) s) (closed h a))
 
   -- session i opens a snapshot at a free seat; the cut is known to it and covers a stable mark of its site
-  pub open_seat : (i a n : ℕ) (m : Four) → i < length g.sessions → a < length g.seats → n < g.partitions → IsMark k m →
+  pub open_seat : (i a n : ℕ) (m : PerSite) → i < length g.sessions → a < length g.seats → n < g.partitions → IsMark k m →
       Covers (session_at g i).knows m → Covers m (g.server (session_at g i).site n).marks.stable → Below (shape g four some) (λ s n. (g.server s n).marks.received) (session_at g i).site m →
       Core k (shape g four some) P (tables k (with_seat g a (Some (record { session = i; serial = g.next_serial; cut = m })) (suc g.next_serial))) (remembered h g.next_serial m (session_at g i).site)
   open_seat i a n m li la ln mk kn high b =

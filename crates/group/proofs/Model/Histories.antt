@@ -1,17 +1,17 @@
 -- The whole invariant: of the group, of what the history tells of it, and of what the proof remembers.
 use Rattle.std.proofs.Common.{◌≡◌, ℕ, ◌^◌, ◌<◌, ◌≤◌, ◌∷◌, length, Some, None, Option, sym, refl, ◌∙◌, subst, ⊎_elim, le_trans, le_refl, arith}
-use Rattle.stamps.specs.Rows.{Four}
+use Rattle.stamps.specs.Rows.{PerSite}
 use Rattle.stamps.specs.Kinds.{Kind}
-use Rattle.servers.specs.Laws.{In}
+use Rattle.servers.specs.Laws.{IsIn}
 use Rattle.servers.specs.Servers.{ServerState}
 use Rattle.servers.specs.declared.value.Value.{Value}
 use Rattle.servers.specs.declared.version.Version.{Version}
 use Rattle.group.specs.Model.Calls.{shown_of}
 use Rattle.group.specs.Model.Events.{Put, Shown, Ticket, Told, read_by, nothing, History}
 use Rattle.group.specs.Model.Groups.{GroupState, SeatState, session_at, seat_at}
-use Rattle.group.specs.Model.GroupStore.{LayoutBounded}
+use Rattle.group.specs.Model.GroupStore.{IsLayoutBounded}
 use Rattle.group.specs.Model.Pasts.{site_of, reader_of, Past}
-use Rattle.group.specs.Model.Promises.{Open, Opened, WasPut}
+use Rattle.group.specs.Model.Promises.{IsOpen, WasOpened, WasPut}
 use Rattle.group.proofs.Model.Invariant.{Ghost, tables, name_of, Core}
 use Rattle.group.proofs.Model.GroupEffects.{shape, with_servers}
 use Rattle.group.proofs.Model.Showing.{Best}
@@ -25,7 +25,7 @@ pub record ServerFrame (sites s : ℕ) (x : ServerState) : Type 0 where
   pub reading : x.reading < 2 ^ 47
 
 pub record Frame (g : GroupState) : Type 0 where
-  pub layout : LayoutBounded g.sites g.partitions
+  pub layout : IsLayoutBounded g.sites g.partitions
   pub servers : (s n : ℕ) → ServerFrame g.sites s (g.server s n)
   pub sessions : length g.sessions ≤ 8
   pub seats : length g.seats ≡ 4
@@ -33,10 +33,10 @@ pub record Frame (g : GroupState) : Type 0 where
 
 -- What the history tells of sessions and snapshots is as the group has it.
 pub record HistInv (h : History) (g : GroupState) : Type 0 where
-  pub opened_known : (i : ℕ) → Opened i h → i < length g.sessions
+  pub opened_known : (i : ℕ) → WasOpened i h → i < length g.sessions
   pub sites_known : (i : ℕ) → i < length g.sessions → site_of h i ≡ (session_at g i).site
   pub readers_known : (a : ℕ) (y : SeatState) → seat_at g a ≡ Some y → reader_of h y.serial ≡ y.session
-  pub open_known : (t : Ticket) → Open t h → (y : SeatState) × (seat_at g t.seat ≡ Some y) × (y.serial ≡ t.serial)
+  pub open_known : (t : Ticket) → IsOpen t h → (y : SeatState) × (seat_at g t.seat ≡ Some y) × (y.serial ≡ t.serial)
 
 abbrev pub shown_option : Option Version → Option Shown
 shown_option None = None
@@ -54,10 +54,10 @@ pub record Inv (k : Kind) (sites : ℕ) (h : History) (g : GroupState) (G : Ghos
   pub layout : g.sites ≡ sites
   pub core : Core k (shape g frame.layout.few_sites frame.layout.some_partitions) (Past h) (tables k g) G
   pub hist : HistInv h g
-  pub reads : (t : Ticket) (key : ℕ) (o : Option Shown) → In (read_by t key o) h → ReadRight k G g.next_serial t key o
+  pub reads : (t : Ticket) (key : ℕ) (o : Option Shown) → IsIn (read_by t key o) h → ReadRight k G g.next_serial t key o
   -- the log is what was put
-  pub written : (v : Version) → In v G.log → WasPut h (name_of v) v.value
-  pub logged : (p : Put) (x : Value) → WasPut h p x → (v : Version) × In v G.log × (name_of v ≡ p)
+  pub written : (v : Version) → IsIn v G.log → WasPut h (name_of v) v.value
+  pub logged : (p : Put) (x : Value) → WasPut h p x → (v : Version) × IsIn v G.log × (name_of v ≡ p)
 
 -- What the proof remembers has only grown, and no snapshot's answers have changed.
 pub record Grows (k : Kind) (next next' : ℕ) (G G' : Ghost) : Type 0 where
@@ -72,7 +72,7 @@ pub grows_on : {k : Kind} {a b c : ℕ} {G H I : Ghost} → Grows k a b G H → 
 grows_on {k} {a} {b} {c} {G} {H} {I} p q = record {
   more = le_trans p.more q.more;
   same_cut = λ x l. q.same_cut x (le_trans l p.more) ∙ p.same_cut x l;
-  best = λ x l key o h. subst (λ (m : Four). Best k I.log m key o) (p.same_cut x l) (q.best x (le_trans l p.more) key o (subst (λ (m : Four). Best k H.log m key o) (sym (p.same_cut x l)) (p.best x l key o h)));
+  best = λ x l key o h. subst (λ (m : PerSite). Best k I.log m key o) (p.same_cut x l) (q.best x (le_trans l p.more) key o (subst (λ (m : PerSite). Best k H.log m key o) (sym (p.same_cut x l)) (p.best x l key o h)));
 }
 
 pub read_grows : {k : Kind} {next next' : ℕ} {G G' : Ghost} → Grows k next next' G G' → (t : Ticket) (key : ℕ) (o : Option Shown) → ReadRight k G next t key o → ReadRight k G' next' t key o
@@ -80,7 +80,7 @@ read_grows {k} {next} {next'} {G} {G'} up t key o r = record {
   found = r.found;
   is = r.is;
   issued = le_trans r.issued up.more;
-  best = subst (λ (m : Four). Best k G'.log m key r.found) (sym (up.same_cut t.serial r.issued)) (up.best t.serial r.issued key r.found r.best);
+  best = subst (λ (m : PerSite). Best k G'.log m key r.found) (sym (up.same_cut t.serial r.issued)) (up.best t.serial r.issued key r.found r.best);
 }
 
 -- The invariant is kept by a call that tells t and leaves g'.
@@ -94,7 +94,7 @@ not_nothing t key o e = let z : ◌≡◌ {A = ℕ} 0 1 = cc in omega arith
 
 module _ {k : Kind} {sites : ℕ} {h : History} {g : GroupState} {G : Ghost} (v : Inv k sites h g G) where
   -- sessions stay opened where there are as many as before
-  pub still_opened : {count : ℕ} → count ≡ length g.sessions → (i : ℕ) → Opened i h → i < count
+  pub still_opened : {count : ℕ} → count ≡ length g.sessions → (i : ℕ) → WasOpened i h → i < count
   still_opened as_many i o = subst (λ (z : ℕ). i < z) (sym as_many) (v.hist.opened_known i o)
 
   -- a call that tells nothing, and changes servers only

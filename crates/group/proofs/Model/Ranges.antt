@@ -6,7 +6,7 @@ use Rattle.stamps.specs.declared.refusal.Refusal.TheVariants.{Unlawful}
 use Rattle.stamps.specs.Kinds.{Kind, IsMark}
 use Rattle.servers.specs.declared.entry.Entry.{Entry}
 use Rattle.servers.specs.declared.entry.Entry.TheVariants.{Update, Heartbeat}
-use Rattle.servers.specs.Laws.{In}
+use Rattle.servers.specs.Laws.{IsIn}
 use Rattle.servers.specs.Values.{value_from}
 use Rattle.servers.specs.declared.value.Value.{Value}
 use Rattle.servers.specs.declared.value.Value.TheVariants.{Gone, Price, Percent, Basis as BasisOf}
@@ -14,7 +14,7 @@ use Rattle.servers.specs.declared.value.Basis.TheVariants.{Part, Sheet}
 use Rattle.servers.specs.declared.version.Version.{Version}
 use Rattle.group.specs.Model.Events.{Put, wrote, History}
 use Rattle.group.specs.Model.Groups.{GroupState}
-use Rattle.group.specs.Model.GroupStore.{EntryBounded, GroupBounded, InRange, VersionBounded}
+use Rattle.group.specs.Model.GroupStore.{IsEntryBounded, IsGroupBounded, IsInRange, IsVersionBounded}
 use Rattle.group.specs.Model.Promises.{WasPut}
 use Rattle.group.proofs.Model.Invariant.{Ghost}
 use Rattle.group.proofs.Model.Histories.{Inv}
@@ -23,7 +23,7 @@ use Rattle.group.proofs.Model.Rows.{stamps_at}
 
 -- the value that was made, or none
 abbrev MadeInRange : Result Value Refusal → Type 0
-MadeInRange (Ok x) = InRange x
+MadeInRange (Ok x) = IsInRange x
 MadeInRange (Err why) = Unit {0}
 
 made_in_range : (kind amount : ℕ) → MadeInRange (value_from kind amount)
@@ -35,26 +35,26 @@ made_in_range kind amount =
     (λ _. cond_both {A = Result Value Refusal} (eqb kind 3 && eqb amount 1) (Ok (BasisOf Sheet)) (Err Unlawful) MadeInRange (λ _. tt) (λ _. tt)))))
 
 -- what was put is in range
-put_in_range : (h : History) (p : Put) (x : Value) → WasPut h p x → InRange x
+put_in_range : (h : History) (p : Put) (x : Value) → WasPut h p x → IsInRange x
 put_in_range [] p x w = absurd w
 put_in_range (wrote i key kind amount stamp ∷ h) p x (inl w) = put_in_range h p x w
 put_in_range (wrote i key kind amount stamp ∷ h) p x (inr (_, e)) = subst MadeInRange e (made_in_range kind amount)
 put_in_range (other ∷ h) p x w = put_in_range h p x w
 
 module _ {k : Kind} {sites : ℕ} {h : History} {g : GroupState} {G : Ghost} (v : Inv k sites h g G) where
-  logged_bounded : (w : Version) → In w G.log → VersionBounded k g.sites w
+  logged_bounded : (w : Version) → IsIn w G.log → IsVersionBounded k g.sites w
   logged_bounded w l =
       record { value = put_in_range h _ w.value (v.written w l); stamp = v.core.logs.small w l; source = v.core.logs.source w l; mark = v.core.logs.marked w l }
 
   -- an entry under way is no later than its server's last stamp
-  entry_bounded : (s n site : ℕ) → s < g.sites → site < g.sites → (site ≡ s → ⊥) → (e : Entry) → In e ((g.server s n).waiting site) → EntryBounded k g.sites e
+  entry_bounded : (s n site : ℕ) → s < g.sites → site < g.sites → (site ≡ s → ⊥) → (e : Entry) → IsIn e ((g.server s n).waiting site) → IsEntryBounded k g.sites e
   entry_bounded s n site ls lt apart (Update w) i = logged_bounded w (v.core.queues.pending w s site n ls lt apart i).0
   entry_bounded s n site ls lt apart (Heartbeat stamp) i =
       let low = chain_below _ _ ((g.server s n).waiting site) (Heartbeat stamp) (v.core.queues.chain s site n ls lt apart) i in
       let high = stamps_at (g.server s n).marks.received s (v.core.marks.received_stamps s n) in
       omega arith
 
-  pub bounded : GroupBounded k g
+  pub bounded : IsGroupBounded k g
   bounded = record {
     layout = v.frame.layout;
     servers = λ s n ls ln. let f = v.frame.servers s n in record {

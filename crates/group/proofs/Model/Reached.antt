@@ -4,21 +4,21 @@ use Rattle.std.proofs.Math.Logic.{∥∥₁_map}
 use Rattle.std.proofs.lemmas.Bool.{cond_both}
 use Rattle.stamps.specs.declared.refusal.Refusal.{Refusal}
 use Rattle.stamps.specs.declared.refusal.Refusal.TheVariants.{NotInLayout, NoSession, NoneFree, NothingWaits, NotOpen, End}
-use Rattle.stamps.specs.Clocks.{LawfulRule}
-use Rattle.stamps.specs.Kinds.{Kind, LawfulKind}
+use Rattle.stamps.specs.Clocks.{IsLawfulRule}
+use Rattle.stamps.specs.Kinds.{Kind, IsLawfulKind}
 use Rattle.servers.specs.declared.version.Version.{Version}
 use Rattle.servers.specs.declared.entry.Entry.{Entry}
 use Rattle.servers.specs.declared.value.Value.{Value}
 use Rattle.servers.specs.Outboxes.{next_for}
 use Rattle.servers.specs.Values.{value_from}
 use Rattle.stamps.specs.CommonFloors.{common_floor}
-use Rattle.servers.specs.Servers.{Rule, ServerState, telling, heartbeating, reporting, raised, tidied_up, lead_of, latest_visible}
-use Rattle.group.specs.Model.Calls.{asked, has_server, server_left, on_server, on_session, on_seat_of, put_left, put_worth, hearing, learning, snapshot_opened_at, showing, delivered, took_left, counted, safe_mark}
+use Rattle.servers.specs.Servers.{Rule, ServerState, server_tell, server_heartbeat, server_report, server_raise, server_tidy, lead_of, latest_visible}
+use Rattle.group.specs.Model.Calls.{step, has_server, server_left, on_server, on_session, on_seat_of, put_left, put_value, informed_server, learn, open_snapshot_at, show, deliver_entry, deliver_left, with_ok, safe_mark}
 use Rattle.group.specs.Model.Events.{Call, Answer, Done, open_session, tell, put, get, heartbeat, deliver, report, stabilise, open_snapshot, read, close, tidy, lead}
-use Rattle.group.specs.Model.Groups.{GroupState, SessionState, SeatState, made, new_session, partition_of, session_at, seat_at, with_seat, with_sessions, is_line, lowest_free, reported_at}
-use Rattle.group.specs.Model.GroupStore.{LayoutBounded, group_store}
+use Rattle.group.specs.Model.Groups.{GroupState, SessionState, SeatState, new_group, new_session, partition_of, session_at, seat_at, with_seat, with_sessions, is_line, lowest_free, reported_at}
+use Rattle.group.specs.Model.GroupStore.{IsLayoutBounded, group_store}
 use Rattle.group.specs.Model.Promises.{Promises}
-use Rattle.group.specs.Model.Reached.{Reached, Kept, run_of}
+use Rattle.group.specs.Model.Reached.{IsReached, StillKeeps, run_of}
 use Rattle.group.specs.Model.Stores.{Store, Run, then, then_all}
 use Rattle.group.proofs.Model.Theorem.{keeps_promises}
 
@@ -62,80 +62,80 @@ put_same : (k : Kind) (g : GroupState) (i : ℕ) (x : SessionState) (key : ℕ) 
 put_same k g i x key value (Ok stamp, s) = record { sites = refl; partitions = refl }
 put_same k g i x key value (Err why, s) = stays g (Err why)
 
-worth_same : (rule : Rule) (k : Kind) (g : GroupState) (i key : ℕ) (x : SessionState) (v : Result Value Refusal) → SameLayout g (put_worth rule k g i key x v)
+worth_same : (rule : Rule) (k : Kind) (g : GroupState) (i key : ℕ) (x : SessionState) (v : Result Value Refusal) → SameLayout g (put_value rule k g i key x v)
 worth_same rule k g i key x (Err why) = stays g (Err why)
 worth_same rule k g i key x (Ok value) = put_same k g i x key value _
 
-show_same : (k : Kind) (g h : GroupState) (i : ℕ) (v : Option Version) → h.sites ≡ g.sites → h.partitions ≡ g.partitions → SameLayout g (showing k h i v)
+show_same : (k : Kind) (g h : GroupState) (i : ℕ) (v : Option Version) → h.sites ≡ g.sites → h.partitions ≡ g.partitions → SameLayout g (show k h i v)
 show_same k g h i None p q = record { sites = p; partitions = q }
 show_same k g h i (Some v) p q = record { sites = p; partitions = q }
 
-seated_same : (k : Kind) (g : GroupState) (i : ℕ) (x : SessionState) (partition seat : ℕ) → SameLayout g (snapshot_opened_at k g i x partition seat)
+seated_same : (k : Kind) (g : GroupState) (i : ℕ) (x : SessionState) (partition seat : ℕ) → SameLayout g (open_snapshot_at k g i x partition seat)
 seated_same k g i x partition seat =
     both_same g (leb 4 seat) (Err NoneFree, g) _ (stays g (Err NoneFree))
-    (both_same g (leb (2 ^ 32 - 1) g.next_serial) (Err End, g) (_, with_seat (learning k g i x partition) seat _ _) (stays g (Err End)) (record { sites = refl; partitions = refl }))
+    (both_same g (leb (2 ^ 32 - 1) g.next_serial) (Err End, g) (_, with_seat (learn k g i x partition) seat _ _) (stays g (Err End)) (record { sites = refl; partitions = refl }))
 
-took_same : (g : GroupState) (from to partition : ℕ) (r : Result Done Refusal × ServerState) → SameLayout g (took_left g from to partition r)
+took_same : (g : GroupState) (from to partition : ℕ) (r : Result Done Refusal × ServerState) → SameLayout g (deliver_left g from to partition r)
 took_same g from to partition (Ok done, s) = record { sites = refl; partitions = refl }
 took_same g from to partition (Err why, s) = stays g (Err why)
 
-delivered_same : (g : GroupState) (from to partition : ℕ) (e : Option Entry) → SameLayout g (delivered g from to partition e)
+delivered_same : (g : GroupState) (from to partition : ℕ) (e : Option Entry) → SameLayout g (deliver_entry g from to partition e)
 delivered_same g from to partition None = stays g (Err NothingWaits)
 delivered_same g from to partition (Some e) = took_same g from to partition _
 
-asked_same : (rule : Rule) (k : Kind) (g : GroupState) (call : Call) → SameLayout g (asked rule k g call)
+asked_same : (rule : Rule) (k : Kind) (g : GroupState) (call : Call) → SameLayout g (step rule k g call)
 asked_same rule k g (open_session site) =
     test_same g (ltb site g.sites) _ NotInLayout
     (both_same g (leb 8 (length g.sessions)) (Err NoneFree, g) (Ok (length g.sessions), with_sessions g (g.sessions ++ (new_session site ∷ []))) (stays g (Err NoneFree)) (record { sites = refl; partitions = refl }))
-asked_same rule k g (tell site partition time) = on_server_same g site partition (λ s. telling s time)
-asked_same rule k g (put i key kind amount) = on_session_same g i (λ x. put_worth rule k g i key x (value_from kind amount)) (worth_same rule k g i key _ _)
-asked_same rule k g (get i key) = on_session_same g i (λ x. showing k (learning k g i x (partition_of g key)) i (latest_visible k (hearing k g x (partition_of g key)) key)) (show_same k g _ i _ refl refl)
-asked_same rule k g (heartbeat site partition) = on_server_same g site partition (heartbeating rule)
+asked_same rule k g (tell site partition time) = on_server_same g site partition (λ s. server_tell s time)
+asked_same rule k g (put i key kind amount) = on_session_same g i (λ x. put_value rule k g i key x (value_from kind amount)) (worth_same rule k g i key _ _)
+asked_same rule k g (get i key) = on_session_same g i (λ x. show k (learn k g i x (partition_of g key)) i (latest_visible k (informed_server k g x (partition_of g key)) key)) (show_same k g _ i _ refl refl)
+asked_same rule k g (heartbeat site partition) = on_server_same g site partition (server_heartbeat rule)
 asked_same rule k g (deliver from to partition) = test_same g (is_line g.sites g.partitions from to partition) _ NotInLayout (delivered_same g from to partition (next_for (g.server from partition).waiting to))
-asked_same rule k g (report site partition) = on_server_same g site partition (λ s. (Ok tt, reporting k s))
-asked_same rule k g (stabilise site partition) = on_server_same g site partition (λ s. (Ok tt, raised k s (common_floor k (reported_at g site))))
+asked_same rule k g (report site partition) = on_server_same g site partition (λ s. (Ok tt, server_report k s))
+asked_same rule k g (stabilise site partition) = on_server_same g site partition (λ s. (Ok tt, server_raise k s (common_floor k (reported_at g site))))
 asked_same rule k g (open_snapshot i partition) =
-    test_same g (ltb partition g.partitions) _ NotInLayout (on_session_same g i (λ x. snapshot_opened_at k g i x partition (lowest_free g.seats)) (seated_same k g i _ partition (lowest_free g.seats)))
+    test_same g (ltb partition g.partitions) _ NotInLayout (on_session_same g i (λ x. open_snapshot_at k g i x partition (lowest_free g.seats)) (seated_same k g i _ partition (lowest_free g.seats)))
 asked_same rule k g (read ticket key) = seat_same g ticket.serial (seat_at g ticket.seat) _ (λ y. show_same k g _ y.session _ refl refl)
 asked_same rule k g (close ticket) = seat_same g ticket.serial (seat_at g ticket.seat) (λ y. (Ok tt, with_seat g ticket.seat None g.next_serial)) (λ y. record { sites = refl; partitions = refl })
-asked_same rule k g (tidy site partition) = on_server_same g site partition (λ s. counted (tidied_up k s (safe_mark k g site)))
+asked_same rule k g (tidy site partition) = on_server_same g site partition (λ s. with_ok (server_tidy k s (safe_mark k g site)))
 asked_same rule k g (lead site partition) = test_same g (has_server g site partition) (Ok (lead_of (g.server site partition)), g) NotInLayout (stays g (Ok (lead_of (g.server site partition))))
 
 -- a group as it is made is reached by no calls
-pub reached_made : (rule : Rule) (k : Kind) (g : GroupState) → g ≡ made g.sites g.partitions → LayoutBounded g.sites g.partitions → Reached rule k g
+pub reached_made : (rule : Rule) (k : Kind) (g : GroupState) → g ≡ new_group g.sites g.partitions → IsLayoutBounded g.sites g.partitions → IsReached rule k g
 reached_made rule k g is layout = record { layout = layout; calls = []; leads = sym is }
 
 -- and each call leads from a reached one to a reached one
-pub reached_asked : {rule : Rule} {k : Kind} {g : GroupState} (call : Call) → Reached rule k g → Reached rule k (asked rule k g call).1
+pub reached_asked : {rule : Rule} {k : Kind} {g : GroupState} (call : Call) → IsReached rule k g → IsReached rule k (step rule k g call).1
 reached_asked {rule} {k} {g} call r =
-    let h = (asked rule k g call).1 in
+    let h = (step rule k g call).1 in
     let same = asked_same rule k g call in
     let Leads : ℕ → ℕ → Type 0 = λ sites partitions. (run_of rule k sites partitions (r.calls ++ call ∷ [])).state ≡ h in
     let S = group_store rule k g.sites in
     let leads : Leads g.sites g.partitions =
-    ap (λ (t : Run S). t.state) (then_append S (record { events = []; state = made g.sites g.partitions }) r.calls (call ∷ []))
-    ∙ ap (λ t. (asked rule k t call).1) r.leads
+    ap (λ (t : Run S). t.state) (then_append S (record { events = []; state = new_group g.sites g.partitions }) r.calls (call ∷ []))
+    ∙ ap (λ t. (step rule k t call).1) r.leads
     in
     record {
-      layout = subst (λ s. LayoutBounded s h.partitions) (sym same.sites) (subst (LayoutBounded g.sites) (sym same.partitions) r.layout);
+      layout = subst (λ s. IsLayoutBounded s h.partitions) (sym same.sites) (subst (IsLayoutBounded g.sites) (sym same.partitions) r.layout);
       calls = r.calls ++ call ∷ [];
       leads = subst (λ s. Leads s h.partitions) (sym same.sites) (subst (Leads g.sites) (sym same.partitions) leads);
     }
 
 -- so is the group that a call has left, whatever it has answered
-pub reached_next : {rule : Rule} {k : Kind} {g h : GroupState} (call : Call) {a : Answer call} → (a, h) ≡ asked rule k g call → Reached rule k g → Reached rule k h
-reached_next {rule} {k} call is r = subst (Reached rule k) (sym (ap (λ t. t.1) is)) (reached_asked call r)
+pub reached_next : {rule : Rule} {k : Kind} {g h : GroupState} (call : Call) {a : Answer call} → (a, h) ≡ step rule k g call → IsReached rule k g → IsReached rule k h
+reached_next {rule} {k} call is r = subst (IsReached rule k) (sym (ap (λ t. t.1) is)) (reached_asked call r)
 
 -- a reached group keeps the promises
-pub reached_keeps : {rule : Rule} {k : Kind} {g : GroupState} → LawfulKind k → LawfulRule rule → Reached rule k g → Kept rule k g
+pub reached_keeps : {rule : Rule} {k : Kind} {g : GroupState} → IsLawfulKind k → IsLawfulRule rule → IsReached rule k g → StillKeeps rule k g
 reached_keeps {rule} {k} {g} law clock r =
     let S = group_store rule k g.sites in
     record {
       calls = r.calls;
       leads = r.leads;
-      promises = λ more. subst (Promises S) (then_append S (record { events = []; state = made g.sites g.partitions }) r.calls more) (keeps_promises law rule clock g.sites g.partitions r.layout (r.calls ++ more));
+      promises = λ more. subst (Promises S) (then_append S (record { events = []; state = new_group g.sites g.partitions }) r.calls more) (keeps_promises law rule clock g.sites g.partitions r.layout (r.calls ++ more));
     }
 
 -- the same, where it is only known that calls lead there
-pub still_reached : {rule : Rule} {k : Kind} {g h : GroupState} (call : Call) {a : Answer call} → (a, h) ≡ asked rule k g call → ∥ Reached rule k g ∥₁ → ∥ Reached rule k h ∥₁
+pub still_reached : {rule : Rule} {k : Kind} {g h : GroupState} (call : Call) {a : Answer call} → (a, h) ≡ step rule k g call → ∥ IsReached rule k g ∥₁ → ∥ IsReached rule k h ∥₁
 still_reached call is r = ∥∥₁_map r (reached_next call is)

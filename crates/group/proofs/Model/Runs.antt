@@ -3,16 +3,16 @@ use Rattle.std.proofs.Common.{◌≡◌, ℕ, ◌^◌, ◌<◌, ltb, List, [], �
 use Rattle.std.proofs.lemmas.Bool.{cond_both}
 use Rattle.stamps.specs.declared.refusal.Refusal.{Refusal}
 use Rattle.stamps.specs.declared.refusal.Refusal.TheVariants.{NotInLayout}
-use Rattle.stamps.specs.Clocks.{LawfulRule}
-use Rattle.stamps.specs.Rows.{Stamps, same}
+use Rattle.stamps.specs.Clocks.{IsLawfulRule}
+use Rattle.stamps.specs.Rows.{HasStamps, same}
 use Rattle.stamps.specs.Stamps.{top_stamp}
-use Rattle.stamps.specs.Kinds.{Kind, LawfulKind}
+use Rattle.stamps.specs.Kinds.{Kind, IsLawfulKind}
 use Rattle.servers.specs.Servers.{Rule, first_entry, first_received, lead_of}
 use Rattle.servers.proofs.RowEntries.{by_site}
-use Rattle.group.specs.Model.Calls.{asked, has_server}
-use Rattle.group.specs.Model.Events.{Call, open_session, tell, put, get, heartbeat, deliver, report, stabilise, open_snapshot, read, close, tidy, lead, told, nothing, History}
-use Rattle.group.specs.Model.Groups.{GroupState, SeatState, made}
-use Rattle.group.specs.Model.GroupStore.{LayoutBounded, group_store}
+use Rattle.group.specs.Model.Calls.{step, has_server}
+use Rattle.group.specs.Model.Events.{Call, open_session, tell, put, get, heartbeat, deliver, report, stabilise, open_snapshot, read, close, tidy, lead, what_is_told, nothing, History}
+use Rattle.group.specs.Model.Groups.{GroupState, SeatState, new_group}
+use Rattle.group.specs.Model.GroupStore.{IsLayoutBounded, group_store}
 use Rattle.group.specs.Model.Stores.{Run, then, then_all, history}
 use Rattle.group.proofs.Model.Rows.{covers_zero, zero_mark}
 use Rattle.group.proofs.Model.Invariant.{Ghost}
@@ -23,8 +23,8 @@ use Rattle.group.proofs.Model.SessionSteps.{keeps_open, keeps_put, keeps_get}
 use Rattle.group.proofs.Model.SnapshotSteps.{keeps_snapshot, keeps_read, keeps_close}
 
 -- every call keeps the invariant
-pub keeps : {k : Kind} → LawfulKind k → (rule : Rule) → LawfulRule rule → {sites : ℕ} {h : History} {g : GroupState} {G : Ghost} → Inv k sites h g G →
-    (call : Call) → Kept k sites h g G (told call (asked rule k g call).0) (asked rule k g call).1
+pub keeps : {k : Kind} → IsLawfulKind k → (rule : Rule) → IsLawfulRule rule → {sites : ℕ} {h : History} {g : GroupState} {G : Ghost} → Inv k sites h g G →
+    (call : Call) → Kept k sites h g G (what_is_told call (step rule k g call).0) (step rule k g call).1
 keeps law rule clock v (open_session site) = keeps_open law v site
 keeps law rule clock v (tell site partition time) = keeps_tell law v site partition time
 keeps law rule clock v (put session key kind amount) = keeps_put law v rule clock session key kind amount
@@ -44,7 +44,7 @@ keeps {k} law rule clock {sites} {h} {g} {G} v (lead site partition) =
 abbrev pub no_ghost : Ghost
 no_ghost = record { log = []; cut_of = λ q. same 0; snap_site = λ q. 0 }
 
-first_stamps : (sites : ℕ) → Stamps (first_received sites)
+first_stamps : (sites : ℕ) → HasStamps (first_received sites)
 first_stamps sites = (one 0, one 1, one 2, one 3)
   where
     one : (site : ℕ) → first_entry sites site < 2 ^ 63
@@ -53,7 +53,7 @@ first_stamps sites = (one 0, one 1, one 2, one 3)
 free_seats : (a : ℕ) → get_or {A = Option SeatState} (None ∷ None ∷ None ∷ None ∷ []) a None ≡ None
 free_seats = by_site (λ a. get_or {A = Option SeatState} (None ∷ None ∷ None ∷ None ∷ []) a None ≡ None) refl refl refl refl (λ m. refl)
 
-pub begins : {k : Kind} → LawfulKind k → (sites partitions : ℕ) → LayoutBounded sites partitions → Inv k sites [] (made sites partitions) no_ghost
+pub begins : {k : Kind} → IsLawfulKind k → (sites partitions : ℕ) → IsLayoutBounded sites partitions → Inv k sites [] (new_group sites partitions) no_ghost
 begins {k} law sites partitions layout = record {
   frame = record {
     layout = layout;
@@ -91,7 +91,7 @@ pub record Ran (rule : Rule) (k : Kind) (sites next : ℕ) (G : Ghost) (r : Run 
   pub inv : Inv k sites (history (group_store rule k sites) r) r.state ghost
   pub grows : Grows k next r.state.next_serial G ghost
 
-pub ran : {k : Kind} → LawfulKind k → (rule : Rule) → LawfulRule rule → (sites : ℕ) (r : Run (group_store rule k sites)) (G : Ghost) →
+pub ran : {k : Kind} → IsLawfulKind k → (rule : Rule) → IsLawfulRule rule → (sites : ℕ) (r : Run (group_store rule k sites)) (G : Ghost) →
     Inv k sites (history (group_store rule k sites) r) r.state G → (calls : List Call) → Ran rule k sites r.state.next_serial G (then_all (group_store rule k sites) r calls)
 ran {k} law rule clock sites r G v [] = record { ghost = G; inv = v; grows = grows_same k r.state.next_serial G }
 ran {k} law rule clock sites r G v (call ∷ calls) =

@@ -1,7 +1,7 @@
 -- New sessions, and opening and closing snapshots.
 use Rattle.std.proofs.Common.{◌≡◌, ℕ, suc, ◌<◌, Some, None, Option, sym, ap, ◌∙◌, subst, le_refl, arith}
-use Rattle.stamps.specs.Rows.{Four, Covers}
-use Rattle.stamps.specs.Kinds.{Kind, IsMark, LawfulKind}
+use Rattle.stamps.specs.Rows.{PerSite, Covers}
+use Rattle.stamps.specs.Kinds.{Kind, IsMark, IsLawfulKind}
 use Rattle.group.specs.Model.Events.{Put}
 use Rattle.group.specs.Model.Groups.{SessionState, SeatState, new_session}
 use Rattle.group.specs.Model.Pasts.{Pasts, of_session}
@@ -31,11 +31,11 @@ module _ {k : Kind} {L : Shape} {P : Pasts} {T : Tables} {G : Ghost} (h : Core k
   }
 
   -- what the proof remembers of a new snapshot
-  abbrev pub remembered : ℕ → Four → ℕ → Ghost
+  abbrev pub remembered : ℕ → PerSite → ℕ → Ghost
   remembered q m s = record { log = G.log; cut_of = set1 G.cut_of q m; snap_site = set1 G.snap_site q s }
 
   -- session i opens a snapshot of cut m, which it knows
-  pub seated : (i a : ℕ) (m : Four) → i < T.opened → Covers (T.session i).knows m → IsMark k m → Below L T.received (T.session i).site m →
+  pub seated : (i a : ℕ) (m : PerSite) → i < T.opened → Covers (T.session i).knows m → IsMark k m → Below L T.received (T.session i).site m →
       Core k L P (with_seats T (set1 T.seat a (Some (record { session = i; serial = T.next; cut = m }))) (suc T.next)) (remembered T.next m (T.session i).site)
   seated i a m l kn mk b = record {
     logs = h.logs;
@@ -55,7 +55,7 @@ module _ {k : Kind} {L : Shape} {P : Pasts} {T : Tables} {G : Ghost} (h : Core k
       y : SeatState
       y = record { session = i; serial = T.next; cut = m }
 
-      cut' : ℕ → Four
+      cut' : ℕ → PerSite
       cut' = set1 G.cut_of T.next m
 
       site' : ℕ → ℕ
@@ -82,13 +82,13 @@ module _ {k : Kind} {L : Shape} {P : Pasts} {T : Tables} {G : Ghost} (h : Core k
             its_site = o.its_site ∙ sym (set1_other G.snap_site T.next (T.session i).site z.serial older);
           })
 
-      at_q : (q : ℕ) → q < suc T.next → (Q : ℕ → Four → Type 0) → Q (T.session i).site m → (q < T.next → Q (G.snap_site q) (G.cut_of q)) → Q (site' q) (cut' q)
+      at_q : (q : ℕ) → q < suc T.next → (Q : ℕ → PerSite → Type 0) → Q (T.session i).site m → (q < T.next → Q (G.snap_site q) (G.cut_of q)) → Q (site' q) (cut' q)
       at_q q lq Q here old = set1_cases G.snap_site T.next (T.session i).site q (λ s. Q s (cut' q))
           (λ e. set1_cases G.cut_of T.next m q (λ c. Q (T.session i).site c) (λ _. here) (λ ne. absurd (ne e)))
           (λ ne. set1_cases G.cut_of T.next m q (λ c. Q (G.snap_site q) c) (λ e. absurd (ne e)) (λ _. old (omega arith)))
 
   -- a session is opened at site s
-  pub enrolled : LawfulKind k → (s : ℕ) → s < L.sites → Core k L P (with_sessions T (suc T.opened) (set1 T.session T.opened (new_session s))) G
+  pub enrolled : IsLawfulKind k → (s : ℕ) → s < L.sites → Core k L P (with_sessions T (suc T.opened) (set1 T.session T.opened (new_session s))) G
   enrolled law s ls = record {
     logs = h.logs;
     queues = h.queues;

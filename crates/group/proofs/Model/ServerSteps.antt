@@ -4,22 +4,22 @@ use Rattle.std.proofs.lemmas.List.{length-append, length-drop}
 use Rattle.std.proofs.lemmas.Bool.{and_parts, and_cases, cond_both, eqb-false, leb-false, ltb-true, not-true, or_parts, both_ways}
 use Rattle.stamps.specs.declared.refusal.Refusal.{Refusal}
 use Rattle.stamps.specs.declared.refusal.Refusal.TheVariants.{NotInLayout, Unlawful, ReadingBehind, TableFull, OutboxFull}
-use Rattle.stamps.specs.Clocks.{Allowed, LawfulRule}
-use Rattle.stamps.specs.Rows.{Four, Covers, Stamps, at, with_entry}
+use Rattle.stamps.specs.Clocks.{IsAllowed, IsLawfulRule}
+use Rattle.stamps.specs.Rows.{PerSite, Covers, HasStamps, at, with_entry}
 use Rattle.stamps.specs.CommonFloors.{common_floor}
-use Rattle.stamps.specs.Kinds.{Kind, IsMark, LawfulKind}
-use Rattle.servers.specs.Entries.{stamp_of}
+use Rattle.stamps.specs.Kinds.{Kind, IsMark, IsLawfulKind}
+use Rattle.servers.specs.Entries.{entry_stamp}
 use Rattle.servers.specs.declared.entry.Entry.{Entry}
 use Rattle.servers.specs.declared.entry.Entry.TheVariants.{Update, Heartbeat}
-use Rattle.servers.specs.Laws.{In}
+use Rattle.servers.specs.Laws.{IsIn}
 use Rattle.servers.specs.Others.{is_other}
-use Rattle.servers.specs.Outboxes.{Queues, first, has16, issued, next_for, outbox_full, taken_by}
-use Rattle.servers.specs.Servers.{Rule, MarksState, ServerState, telling, telling_checked, heartbeating, heartbeating_at, last_of, issuing, keeping, receiving as receiving_server, taking, taking_other, handing, raised, reporting, tidied_up}
-use Rattle.servers.specs.Tables.{table_full}
+use Rattle.servers.specs.Outboxes.{Queues, first, is_queue_full, issue_entry, next_for, is_outbox_full, take_entry}
+use Rattle.servers.specs.Servers.{Rule, MarksState, ServerState, server_tell, server_tell_checked, server_heartbeat, server_heartbeat_with, last_of, server_issue, server_keep, server_receive as receiving_server, server_take, server_take_other, server_hand_over, server_raise, server_report, server_tidy}
+use Rattle.servers.specs.Tables.{is_table_full}
 use Rattle.servers.specs.declared.version.Version.{Version}
 use Rattle.servers.proofs.RowEntries.{by_site}
 use Rattle.servers.proofs.Tidied.{tidied_law}
-use Rattle.group.specs.Model.Calls.{has_server, server_left, on_server, change_server, delivered, took_left, safe_mark, counted}
+use Rattle.group.specs.Model.Calls.{has_server, server_left, on_server, change_server, deliver_entry, deliver_left, safe_mark, with_ok}
 use Rattle.group.specs.Model.Events.{Done, nothing, History}
 use Rattle.group.specs.Model.Groups.{GroupState, with_server, reported_at}
 use Rattle.group.specs.Model.Pasts.{Past}
@@ -36,7 +36,7 @@ use Rattle.group.proofs.Model.GroupEffects.{shape, safe_servers, place_server, r
 use Rattle.group.proofs.Model.Histories.{ServerFrame, Inv, Kept, servers_kept, refused_kept}
 
 -- one entry more for every other site, where none of them has 16 to take
-pub issued_few : (own sites : ℕ) (w : Queues) (e : Entry) → sites ≤ 4 → outbox_full own sites w ≡ false → ((site : ℕ) → length (w site) ≤ 16) → (site : ℕ) → length (issued own sites w e site) ≤ 16
+pub issued_few : (own sites : ℕ) (w : Queues) (e : Entry) → sites ≤ 4 → is_outbox_full own sites w ≡ false → ((site : ℕ) → length (w site) ≤ 16) → (site : ℕ) → length (issue_entry own sites w e site) ≤ 16
 issued_few own sites w e few room old site =
     cond_both (is_other own sites site) (w site ++ (e ∷ [])) (w site) (λ q. length q ≤ 16)
     (λ other. let l = leb-false 16 (length (w site)) (free site other) in omega (arith, length-append (w site) (e ∷ [])))
@@ -45,24 +45,24 @@ issued_few own sites w e few room old site =
     Free : ℕ → Type 0
     Free i = is_other own sites i ≡ true → leb 16 (length (w i)) ≡ false
 
-    one : (i : ℕ) → has16 own sites w i ≡ false → Free i
+    one : (i : ℕ) → is_queue_full own sites w i ≡ false → Free i
     one i no_16 other = ⊎_elim (λ f. absurd (both_ways (is_other own sites i) f other)) (λ f. f) (and_cases (is_other own sites i) (leb 16 (length (w i))) no_16)
 
     free : (i : ℕ) → Free i
     free =
-        let a = or_parts (has16 own sites w 0) _ room in
-        let b = or_parts (has16 own sites w 1) _ a.1 in
-        let c = or_parts (has16 own sites w 2) (has16 own sites w 3) b.1 in
+        let a = or_parts (is_queue_full own sites w 0) _ room in
+        let b = or_parts (is_queue_full own sites w 1) _ a.1 in
+        let c = or_parts (is_queue_full own sites w 2) (is_queue_full own sites w 3) b.1 in
         by_site Free (one 0 a.0) (one 1 b.0) (one 2 c.0) (one 3 c.1)
         (λ m other. absurd (let l = ltb-true (suc (suc (suc (suc m)))) sites (and_parts (ltb (suc (suc (suc (suc m)))) sites) _ other).0 in omega arith))
 
-pub taken_few : (w : Queues) (taker : ℕ) → ((site : ℕ) → length (w site) ≤ 16) → (site : ℕ) → length (taken_by w taker site) ≤ 16
+pub taken_few : (w : Queues) (taker : ℕ) → ((site : ℕ) → length (w site) ≤ 16) → (site : ℕ) → length (take_entry w taker site) ≤ 16
 taken_few w taker old site = cond_both (eqb site taker) (drop 1 (w site)) (w site) (λ q. length q ≤ 16) (λ _. let l = old site in omega (arith, length-drop 1 (w site))) (λ _. old site)
 
 pub in_layout : (g : GroupState) (s n : ℕ) → has_server g s n ≡ true → (s < g.sites) × (n < g.partitions)
 in_layout g s n e = let p = and_parts (ltb s g.sites) (ltb n g.partitions) e in (ltb-true _ _ p.0, ltb-true _ _ p.1)
 
-module _ {k : Kind} (law : LawfulKind k) {sites : ℕ} {h : History} {g : GroupState} {G : Ghost} (v : Inv k sites h g G) where
+module _ {k : Kind} (law : IsLawfulKind k) {sites : ℕ} {h : History} {g : GroupState} {G : Ghost} (v : Inv k sites h g G) where
   abbrev L : Shape
   L = shape g v.frame.layout.few_sites v.frame.layout.some_partitions
 
@@ -87,9 +87,9 @@ module _ {k : Kind} (law : LawfulKind k) {sites : ℕ} {h : History} {g : GroupS
       let f = v.frame.servers s n in
       record { site_is = f.site_is; sites_is = f.sites_is; versions = f.versions; entries = f.entries; reading = f.reading }
 
-  pub keeps_tell : (s n time : ℕ) → Kept k sites h g G nothing (on_server g s n (λ x. telling x time)).1
-  keeps_tell s n time = on_kept s n (λ x. telling x time) (λ _ _.
-      cond_both {A = Result ℕ Refusal} (ltb time (2 ^ 47)) (Ok time) (Err Unlawful) (λ c. Kept k sites h g G nothing (server_left g s n (telling_checked (g.server s n) c)).1)
+  pub keeps_tell : (s n time : ℕ) → Kept k sites h g G nothing (on_server g s n (λ x. server_tell x time)).1
+  keeps_tell s n time = on_kept s n (λ x. server_tell x time) (λ _ _.
+      cond_both {A = Result ℕ Refusal} (ltb time (2 ^ 47)) (Ok time) (Err Unlawful) (λ c. Kept k sites h g G nothing (server_left g s n (server_tell_checked (g.server s n) c)).1)
       (λ small. cond_both {A = Result Done Refusal × ServerState} (ltb time (g.server s n).reading) (Err ReadingBehind, g.server s n) (Ok tt, new) (λ r. Kept k sites h g G nothing (server_left g s n r).1)
       (λ _. refused_kept v)
       (λ _. one_kept s n new (frame (ltb-true _ _ small)) (same_server law g v.frame.layout.few_sites v.frame.layout.some_partitions v.core s n new refl refl refl)))
@@ -101,32 +101,32 @@ module _ {k : Kind} (law : LawfulKind k) {sites : ℕ} {h : History} {g : GroupS
       frame : time < 2 ^ 47 → ServerFrame g.sites s new
       frame small = let f = v.frame.servers s n in record { site_is = f.site_is; sites_is = f.sites_is; versions = f.versions; entries = f.entries; reading = small }
 
-  pub keeps_report : (s n : ℕ) → Kept k sites h g G nothing (change_server g s n (reporting k)).1
-  keeps_report s n = on_kept {A = Done} s n (λ x. (Ok tt, reporting k x))
-      (λ _ _. one_kept s n (reporting k (g.server s n)) (marks_frame s n _) (report_server law g v.frame.layout.few_sites v.frame.layout.some_partitions v.core s n))
+  pub keeps_report : (s n : ℕ) → Kept k sites h g G nothing (change_server g s n (server_report k)).1
+  keeps_report s n = on_kept {A = Done} s n (λ x. (Ok tt, server_report k x))
+      (λ _ _. one_kept s n (server_report k (g.server s n)) (marks_frame s n _) (report_server law g v.frame.layout.few_sites v.frame.layout.some_partitions v.core s n))
 
-  pub keeps_stabilise : (s n : ℕ) → Kept k sites h g G nothing (change_server g s n (λ x. raised k x (common_floor k (reported_at g s)))).1
-  keeps_stabilise s n = on_kept {A = Done} s n (λ x. (Ok tt, raised k x m))
-      (λ _ _. one_kept s n (raised k (g.server s n) m) (marks_frame s n _) (raise_server law g v.frame.layout.few_sites v.frame.layout.some_partitions v.core s n m (common_mark law rows stamps) low))
+  pub keeps_stabilise : (s n : ℕ) → Kept k sites h g G nothing (change_server g s n (λ x. server_raise k x (common_floor k (reported_at g s)))).1
+  keeps_stabilise s n = on_kept {A = Done} s n (λ x. (Ok tt, server_raise k x m))
+      (λ _ _. one_kept s n (server_raise k (g.server s n) m) (marks_frame s n _) (raise_server law g v.frame.layout.few_sites v.frame.layout.some_partitions v.core s n m (common_mark law rows stamps) low))
     where
-      rows : List Four
+      rows : List PerSite
       rows = reported_at g s
 
-      m : Four
+      m : PerSite
       m = common_floor k (reported_at g s)
 
-      stamps : (x : Four) → In x rows → Stamps x
-      stamps x i = let r = first_in (λ j. (g.server s j).marks.reported) g.partitions x i in subst Stamps (sym r.2) (v.core.marks.reported_mark s r.0).0
+      stamps : (x : PerSite) → IsIn x rows → HasStamps x
+      stamps x i = let r = first_in (λ j. (g.server s j).marks.reported) g.partitions x i in subst HasStamps (sym r.2) (v.core.marks.reported_mark s r.0).0
 
       low : Below L (λ i j. (g.server i j).marks.received) s m
       low n' l = covers_trans (v.core.marks.reported_below s n') (common_below law rows stamps _ (in_first (λ j. (g.server s j).marks.reported) g.partitions n' l))
 
-  pub keeps_tidy : (s n : ℕ) → Kept k sites h g G nothing (on_server g s n (λ x. counted (tidied_up k x (safe_mark k g s)))).1
-  keeps_tidy s n = on_kept {A = ℕ} s n (λ x. counted (tidied_up k x (safe_mark k g s)))
+  pub keeps_tidy : (s n : ℕ) → Kept k sites h g G nothing (on_server g s n (λ x. with_ok (server_tidy k x (safe_mark k g s)))).1
+  keeps_tidy s n = on_kept {A = ℕ} s n (λ x. with_ok (server_tidy k x (safe_mark k g s)))
       (λ _ _. one_kept s n new frame (tidy_server law g v.frame.layout.few_sites v.frame.layout.some_partitions v.core s n))
     where
       new : ServerState
-      new = (tidied_up k (g.server s n) (safe_mark k g s)).1
+      new = (server_tidy k (g.server s n) (safe_mark k g s)).1
 
       frame : ServerFrame g.sites s new
       frame =
@@ -145,40 +145,40 @@ module _ {k : Kind} (law : LawfulKind k) {sites : ℕ} {h : History} {g : GroupS
     pub issued_received : (t : ℕ) → set2 (λ i m. (g.server i m).marks.received) s n (with_entry srv.marks.received srv.site t) ≡ receiving (λ i m. (g.server i m).marks.received) s n s t
     issued_received t = ap (λ (z : ℕ). set2 (λ i m. (g.server i m).marks.received) s n (with_entry srv.marks.received z t)) (v.frame.servers s n).site_is
 
-    pub issued_waits : (e : Entry) → set2 (λ i m. (g.server i m).waiting) s n (issued srv.site srv.sites srv.waiting e) ≡ sending g.sites (λ i m. (g.server i m).waiting) s n e
+    pub issued_waits : (e : Entry) → set2 (λ i m. (g.server i m).waiting) s n (issue_entry srv.site srv.sites srv.waiting e) ≡ sending g.sites (λ i m. (g.server i m).waiting) s n e
     issued_waits e =
-        ap (λ (z : ℕ). set2 (λ i m. (g.server i m).waiting) s n (issued z srv.sites srv.waiting e)) (v.frame.servers s n).site_is
-        ∙ ap (λ (z : ℕ). set2 (λ i m. (g.server i m).waiting) s n (issued s z srv.waiting e)) (v.frame.servers s n).sites_is
+        ap (λ (z : ℕ). set2 (λ i m. (g.server i m).waiting) s n (issue_entry z srv.sites srv.waiting e)) (v.frame.servers s n).site_is
+        ∙ ap (λ (z : ℕ). set2 (λ i m. (g.server i m).waiting) s n (issue_entry s z srv.waiting e)) (v.frame.servers s n).sites_is
 
     -- the last stamp, as the server and as the tables have it
     pub last_is : last_of srv ≡ last (λ i m. (g.server i m).marks.received) s n
     last_is = ap (at srv.marks.received) (v.frame.servers s n).site_is
 
-    pub issued_entries : (e : Entry) → outbox_full srv.site srv.sites srv.waiting ≡ false → (site : ℕ) → length (issued srv.site srv.sites srv.waiting e site) ≤ 16
+    pub issued_entries : (e : Entry) → is_outbox_full srv.site srv.sites srv.waiting ≡ false → (site : ℕ) → length (issue_entry srv.site srv.sites srv.waiting e site) ≤ 16
     issued_entries e room =
         let f = v.frame.servers s n in
         issued_few srv.site srv.sites srv.waiting e (subst (λ (z : ℕ). z ≤ 4) (sym f.sites_is) v.frame.layout.few_sites) room f.entries
 
-    beat_kept : (t : ℕ) → outbox_full srv.site srv.sites srv.waiting ≡ false → last_of srv < t → t < 2 ^ 63 → Kept k sites h g G nothing (with_server g s n (issuing srv (Heartbeat t)))
+    beat_kept : (t : ℕ) → is_outbox_full srv.site srv.sites srv.waiting ≡ false → last_of srv < t → t < 2 ^ 63 → Kept k sites h g G nothing (with_server g s n (server_issue srv (Heartbeat t)))
     beat_kept t room new small =
         let f = v.frame.servers s n in
-        one_kept s n (issuing srv (Heartbeat t))
+        one_kept s n (server_issue srv (Heartbeat t))
         (record { site_is = f.site_is; sites_is = f.sites_is; versions = f.versions; entries = issued_entries (Heartbeat t) room; reading = f.reading })
-        (place_server law g v.frame.layout.few_sites v.frame.layout.some_partitions v.core s n (issuing srv (Heartbeat t))
+        (place_server law g v.frame.layout.few_sites v.frame.layout.some_partitions v.core s n (server_issue srv (Heartbeat t))
         (set2_same _ s n _ refl) (issued_received t) (set2_same _ s n _ refl) (set2_same _ s n _ refl) (issued_waits (Heartbeat t))
         (v.core.marks.stable_mark s n) (covers_self srv.marks.stable)
         (beaten v.core s n in_s t (subst (λ (z : ℕ). z < t) last_is new) small))
 
-  pub keeps_heartbeat : (rule : Rule) → LawfulRule rule → (s n : ℕ) → Kept k sites h g G nothing (on_server g s n (heartbeating rule)).1
-  keeps_heartbeat rule clock s n = on_kept s n (heartbeating rule) (λ in_s _.
-      cond_both {A = Result ℕ Refusal × ServerState} (outbox_full (g.server s n).site (g.server s n).sites (g.server s n).waiting) (Err OutboxFull, g.server s n) (heartbeating_at (g.server s n) answer) (λ r. Kept k sites h g G nothing (server_left g s n r).1)
+  pub keeps_heartbeat : (rule : Rule) → IsLawfulRule rule → (s n : ℕ) → Kept k sites h g G nothing (on_server g s n (server_heartbeat rule)).1
+  keeps_heartbeat rule clock s n = on_kept s n (server_heartbeat rule) (λ in_s _.
+      cond_both {A = Result ℕ Refusal × ServerState} (is_outbox_full (g.server s n).site (g.server s n).sites (g.server s n).waiting) (Err OutboxFull, g.server s n) (server_heartbeat_with (g.server s n) answer) (λ r. Kept k sites h g G nothing (server_left g s n r).1)
       (λ _. refused_kept v)
       (λ room. go in_s room answer (clock.allowed (last_of (g.server s n)) (g.server s n).reading 0 (stamps_at (g.server s n).marks.received (g.server s n).site (v.core.marks.received_stamps s n)) (v.frame.servers s n).reading (lit< tt))))
     where
       answer : Result ℕ Refusal
       answer = rule (last_of (g.server s n)) (g.server s n).reading 0
 
-      go : s < g.sites → outbox_full (g.server s n).site (g.server s n).sites (g.server s n).waiting ≡ false → (r : Result ℕ Refusal) → Allowed (last_of (g.server s n)) 0 r → Kept k sites h g G nothing (server_left g s n (heartbeating_at (g.server s n) r)).1
+      go : s < g.sites → is_outbox_full (g.server s n).site (g.server s n).sites (g.server s n).waiting ≡ false → (r : Result ℕ Refusal) → IsAllowed (last_of (g.server s n)) 0 r → Kept k sites h g G nothing (server_left g s n (server_heartbeat_with (g.server s n) r)).1
       go in_s room (Ok t) a = beat_kept s n in_s t room a.0 a.2
       go in_s room (Err why) a = refused_kept v
 
@@ -196,21 +196,21 @@ module _ {k : Kind} (law : LawfulKind k) {sites : ℕ} {h : History} {g : GroupS
 
     -- the tables once the taker has become x and the sender has handed the entry over
     taken_tables : (x : ServerState) {held : ℕ → ℕ → List Version} → set2 (λ i m. (g.server i m).held) to n x.held ≡ held →
-        x.marks.received ≡ with_entry taker.marks.received from (stamp_of e) → x.marks.reported ≡ taker.marks.reported → x.marks.stable ≡ taker.marks.stable → x.waiting ≡ taker.waiting →
-        Core k L (Past h) (with_entries (tables k g) held (receiving (λ i m. (g.server i m).marks.received) to n from (stamp_of e)) (handed_over (λ i m. (g.server i m).waiting) from to n)) G →
-        Core k L (Past h) (tables k (with_server (with_server g to n x) from n (handing sender to))) G
+        x.marks.received ≡ with_entry taker.marks.received from (entry_stamp e) → x.marks.reported ≡ taker.marks.reported → x.marks.stable ≡ taker.marks.stable → x.waiting ≡ taker.waiting →
+        Core k L (Past h) (with_entries (tables k g) held (receiving (λ i m. (g.server i m).marks.received) to n from (entry_stamp e)) (handed_over (λ i m. (g.server i m).waiting) from to n)) G →
+        Core k L (Past h) (tables k (with_server (with_server g to n x) from n (server_hand_over sender to))) G
     taken_tables x {held} same-held same_received same-reported same-stable same-waits core =
         subst (λ (T : Tables). Core k L (Past h) T G)
-        (sym (tables_server k (with_server g to n x) from n (handing sender to)
+        (sym (tables_server k (with_server g to n x) from n (server_hand_over sender to)
         (both (λ (y : ServerState). y.held) sender.held refl ∙ same-held)
-        (both (λ (y : ServerState). y.marks.received) sender.marks.received refl ∙ ap (λ (m : Four). set2 (λ i j. (g.server i j).marks.received) to n m) same_received)
+        (both (λ (y : ServerState). y.marks.received) sender.marks.received refl ∙ ap (λ (m : PerSite). set2 (λ i j. (g.server i j).marks.received) to n m) same_received)
         (both (λ (y : ServerState). y.marks.reported) sender.marks.reported refl ∙ set2_same _ to n _ same-reported)
         (both (λ (y : ServerState). y.marks.stable) sender.marks.stable refl ∙ set2_same _ to n _ same-stable)
-        (ap (λ (f : ℕ → ℕ → ℕ → List Entry). set2 f from n (taken_by sender.waiting to)) (set2_field (λ (y : ServerState). y.waiting) g.server to n x ∙ set2_same _ to n _ same-waits))))
-        (safer (safe_mark k (with_server (with_server g to n x) from n (handing sender to)))
-        (λ s' _. safe_servers law g v.frame.layout.few_sites v.frame.layout.some_partitions v.core (set2 (set2 g.server to n x) from n (handing sender to))
+        (ap (λ (f : ℕ → ℕ → ℕ → List Entry). set2 f from n (take_entry sender.waiting to)) (set2_field (λ (y : ServerState). y.waiting) g.server to n x ∙ set2_same _ to n _ same-waits))))
+        (safer (safe_mark k (with_server (with_server g to n x) from n (server_hand_over sender to)))
+        (λ s' _. safe_servers law g v.frame.layout.few_sites v.frame.layout.some_partitions v.core (set2 (set2 g.server to n x) from n (server_hand_over sender to))
         (λ i m. subst (IsMark k) (sym (stable_same i m)) (v.core.marks.stable_mark i m))
-        (λ i m. subst (λ (z : Four). Covers z (g.server i m).marks.stable) (sym (stable_same i m)) (covers_self (g.server i m).marks.stable)) s')
+        (λ i m. subst (λ (z : PerSite). Covers z (g.server i m).marks.stable) (sym (stable_same i m)) (covers_self (g.server i m).marks.stable)) s')
         core)
       where
         -- the sender's field is as it was, so only the taker's has changed
@@ -219,45 +219,45 @@ module _ {k : Kind} (law : LawfulKind k) {sites : ℕ} {h : History} {g : GroupS
             ap (λ f. set2 f from n y) (set2_field p g.server to n x)
             ∙ set2_same (set2 (λ i m. p (g.server i m)) to n (p x)) from n y (e ∙ sym (set2_other (λ i m. p (g.server i m)) to n (p x) from n not_to))
 
-        stable_same : (i m : ℕ) → (set2 (set2 g.server to n x) from n (handing sender to) i m).marks.stable ≡ (g.server i m).marks.stable
-        stable_same i m = set2_cases (set2 g.server to n x) from n (handing sender to) i m (λ y. y.marks.stable ≡ (g.server i m).marks.stable)
+        stable_same : (i m : ℕ) → (set2 (set2 g.server to n x) from n (server_hand_over sender to) i m).marks.stable ≡ (g.server i m).marks.stable
+        stable_same i m = set2_cases (set2 g.server to n x) from n (server_hand_over sender to) i m (λ y. y.marks.stable ≡ (g.server i m).marks.stable)
             (λ a b. ap (λ (z : ℕ). (g.server z n).marks.stable) (sym a) ∙ ap (λ (z : ℕ). (g.server i z).marks.stable) (sym b))
             (λ _. set2_cases g.server to n x i m (λ y. y.marks.stable ≡ (g.server i m).marks.stable)
             (λ a b. same-stable ∙ (ap (λ (z : ℕ). (g.server z n).marks.stable) (sym a) ∙ ap (λ (z : ℕ). (g.server i z).marks.stable) (sym b)))
             (λ _. refl))
 
-    taken_kept : (x : ServerState) → ServerFrame g.sites to x → Core k L (Past h) (tables k (with_server (with_server g to n x) from n (handing sender to))) G →
-        Kept k sites h g G nothing (with_server (with_server g to n x) from n (handing sender to))
-    taken_kept x f core = servers_kept v (set2 (set2 g.server to n x) from n (handing sender to))
-        (λ i m. set2_cases (set2 g.server to n x) from n (handing sender to) i m (ServerFrame g.sites i)
-        (λ a _. subst (λ (z : ℕ). ServerFrame g.sites z (handing sender to)) (sym a) handed)
+    taken_kept : (x : ServerState) → ServerFrame g.sites to x → Core k L (Past h) (tables k (with_server (with_server g to n x) from n (server_hand_over sender to))) G →
+        Kept k sites h g G nothing (with_server (with_server g to n x) from n (server_hand_over sender to))
+    taken_kept x f core = servers_kept v (set2 (set2 g.server to n x) from n (server_hand_over sender to))
+        (λ i m. set2_cases (set2 g.server to n x) from n (server_hand_over sender to) i m (ServerFrame g.sites i)
+        (λ a _. subst (λ (z : ℕ). ServerFrame g.sites z (server_hand_over sender to)) (sym a) handed)
         (λ _. server_frames to n x f i m))
         core
       where
-        handed : ServerFrame g.sites from (handing sender to)
+        handed : ServerFrame g.sites from (server_hand_over sender to)
         handed = let f = v.frame.servers from n in record { site_is = f.site_is; sites_is = f.sites_is; versions = f.versions; entries = taken_few sender.waiting to f.entries; reading = f.reading }
 
   update_beat : (w : Version) (t : ℕ) → Update w ≡ Heartbeat t → ⊥
   update_beat w t e = let z : ◌≡◌ {A = ℕ} 0 1 = cc in omega arith
 
   took_kept : (from to n : ℕ) (e : Entry) (rest : List Entry) → from < g.sites → to < g.sites → (from ≡ to → ⊥) → (g.server from n).waiting to ≡ e ∷ rest →
-      Kept k sites h g G nothing (took_left g from to n (taking_other (g.server to n) from e)).1
+      Kept k sites h g G nothing (deliver_left g from to n (server_take_other (g.server to n) from e)).1
   took_kept from to n (Heartbeat t) rest lf lt apart waiting =
       let x = receiving_server (g.server to n) from t in
       taken_kept from to n (Heartbeat t) rest lf lt apart waiting x (marks_frame to n _)
       (taken_tables from to n (Heartbeat t) rest lf lt apart waiting x (set2_same _ to n _ refl) refl refl refl refl
       (taken_beat v.core from to n (Heartbeat t) rest lf lt apart waiting (λ w d. update_beat w t d)))
   took_kept from to n (Update w) rest lf lt apart waiting =
-      cond_both {A = Result Done Refusal × ServerState} (table_full (g.server to n).held) (Err TableFull, g.server to n) (Ok tt, x) (λ r. Kept k sites h g G nothing (took_left g from to n r).1)
+      cond_both {A = Result Done Refusal × ServerState} (is_table_full (g.server to n).held) (Err TableFull, g.server to n) (Ok tt, x) (λ r. Kept k sites h g G nothing (deliver_left g from to n r).1)
       (λ _. refused_kept v)
       (λ room. taken_kept from to n (Update w) rest lf lt apart waiting x (frame room)
       (taken_tables from to n (Update w) rest lf lt apart waiting x refl refl refl refl refl
       (taken_update v.core from to n (Update w) rest lf lt apart waiting w refl)))
     where
       x : ServerState
-      x = receiving_server (keeping (g.server to n) w) from w.stamp
+      x = receiving_server (server_keep (g.server to n) w) from w.stamp
 
-      frame : table_full (g.server to n).held ≡ false → ServerFrame g.sites to x
+      frame : is_table_full (g.server to n).held ≡ false → ServerFrame g.sites to x
       frame room =
           let f = v.frame.servers to n in
           let few = leb-false 32 (length (g.server to n).held) room in
@@ -265,9 +265,9 @@ module _ {k : Kind} (law : LawfulKind k) {sites : ℕ} {h : History} {g : GroupS
           record { site_is = f.site_is; sites_is = f.sites_is; versions = omega arith; entries = f.entries; reading = f.reading }
 
   pub keeps_deliver : (from to n : ℕ) →
-      Kept k sites h g G nothing (cond {A = Result Done Refusal × GroupState} (has_server g from n && (has_server g to n && not (eqb from to))) (delivered g from to n (next_for (g.server from n).waiting to)) (Err NotInLayout, g)).1
+      Kept k sites h g G nothing (cond {A = Result Done Refusal × GroupState} (has_server g from n && (has_server g to n && not (eqb from to))) (deliver_entry g from to n (next_for (g.server from n).waiting to)) (Err NotInLayout, g)).1
   keeps_deliver from to n =
-      cond_both {A = Result Done Refusal × GroupState} (has_server g from n && (has_server g to n && not (eqb from to))) (delivered g from to n (next_for (g.server from n).waiting to)) (Err NotInLayout, g) (λ r. Kept k sites h g G nothing r.1)
+      cond_both {A = Result Done Refusal × GroupState} (has_server g from n && (has_server g to n && not (eqb from to))) (deliver_entry g from to n (next_for (g.server from n).waiting to)) (Err NotInLayout, g) (λ r. Kept k sites h g G nothing r.1)
       (λ e.
       let p = and_parts (has_server g from n) (has_server g to n && not (eqb from to)) e in
       let q = and_parts (has_server g to n) (not (eqb from to)) p.1 in
@@ -275,11 +275,11 @@ module _ {k : Kind} (law : LawfulKind k) {sites : ℕ} {h : History} {g : GroupS
       (λ _. refused_kept v)
     where
       -- the sender's site is another one of the taker's layout, or the entry is refused
-      other : (e : Entry) → (from ≡ to → ⊥) → Kept k sites h g G nothing (took_left g from to n (taking_other (g.server to n) from e)).1 → Kept k sites h g G nothing (took_left g from to n (taking (g.server to n) from e)).1
+      other : (e : Entry) → (from ≡ to → ⊥) → Kept k sites h g G nothing (deliver_left g from to n (server_take_other (g.server to n) from e)).1 → Kept k sites h g G nothing (deliver_left g from to n (server_take (g.server to n) from e)).1
       other e apart kept =
-          cond_both {A = Result Done Refusal × ServerState} (is_other (g.server to n).site (g.server to n).sites from) (taking_other (g.server to n) from e) (Err NotInLayout, g.server to n) (λ r. Kept k sites h g G nothing (took_left g from to n r).1)
+          cond_both {A = Result Done Refusal × ServerState} (is_other (g.server to n).site (g.server to n).sites from) (server_take_other (g.server to n) from e) (Err NotInLayout, g.server to n) (λ r. Kept k sites h g G nothing (deliver_left g from to n r).1)
           (λ _. kept) (λ _. refused_kept v)
 
-      go : from < g.sites → to < g.sites → (from ≡ to → ⊥) → (q : List Entry) → (g.server from n).waiting to ≡ q → Kept k sites h g G nothing (delivered g from to n (first q)).1
+      go : from < g.sites → to < g.sites → (from ≡ to → ⊥) → (q : List Entry) → (g.server from n).waiting to ≡ q → Kept k sites h g G nothing (deliver_entry g from to n (first q)).1
       go lf lt apart [] waiting = refused_kept v
       go lf lt apart (e ∷ rest) waiting = other e apart (took_kept from to n e rest lf lt apart waiting)

@@ -3,22 +3,22 @@ use Rattle.std.proofs.Common.{◌≡◌, ℕ, ◌%◌, ◌<◌, ◌≤◌, true,
 use Rattle.std.proofs.lemmas.Bool.{cond_both, cond-true, eq-eqb, lt-ltb, ltb-true, or_left, or_right}
 use Rattle.stamps.specs.declared.refusal.Refusal.{Refusal}
 use Rattle.stamps.specs.declared.refusal.Refusal.TheVariants.{NoSession, TableFull, OutboxFull}
-use Rattle.stamps.specs.Clocks.{Allowed, LawfulRule}
-use Rattle.stamps.specs.Rows.{Four, Covers, at, greatest, join}
-use Rattle.stamps.specs.Kinds.{Kind, IsMark, LawfulKind}
-use Rattle.servers.specs.Laws.{In, IsLatest, Passes}
-use Rattle.servers.specs.Outboxes.{outbox_full}
-use Rattle.servers.specs.Servers.{Rule, ServerState, last_of, latest_visible, putting_at, sees}
-use Rattle.servers.specs.Tables.{table_full}
+use Rattle.stamps.specs.Clocks.{IsAllowed, IsLawfulRule}
+use Rattle.stamps.specs.Rows.{PerSite, Covers, at, greatest, join}
+use Rattle.stamps.specs.Kinds.{Kind, IsMark, IsLawfulKind}
+use Rattle.servers.specs.Laws.{IsIn, IsLatest, Passes}
+use Rattle.servers.specs.Outboxes.{is_outbox_full}
+use Rattle.servers.specs.Servers.{Rule, ServerState, last_of, latest_visible, server_put_with, sees}
+use Rattle.servers.specs.Tables.{is_table_full}
 use Rattle.servers.specs.Values.{value_from}
 use Rattle.servers.specs.declared.value.Value.{Value}
 use Rattle.servers.specs.Versions.{full_mark}
 use Rattle.servers.specs.declared.version.Version.{Version}
 use Rattle.servers.proofs.Latest.{latest_law}
-use Rattle.group.specs.Model.Calls.{asked, hearing, learning, put_left, put_worth, safe_mark, showing, shown_of}
-use Rattle.group.specs.Model.Events.{Put, AsLate, Later, Shown, put_shown, get, put, History}
+use Rattle.group.specs.Model.Calls.{step, informed_server, learn, put_left, put_value, safe_mark, show, shown_of}
+use Rattle.group.specs.Model.Events.{Put, IsAsLate, IsLater, Shown, put_shown, get, put, History}
 use Rattle.group.specs.Model.Groups.{GroupState, SessionState, tabulate, partition_of, session_at}
-use Rattle.group.specs.Model.GroupStore.{held_at, joined, may_see}
+use Rattle.group.specs.Model.GroupStore.{versions_at, joined, may_see}
 use Rattle.group.specs.Model.Pasts.{of_session, of_put, Past, site_of}
 use Rattle.group.specs.Model.Promises.{ShowsAsLate, WasPut}
 use Rattle.group.proofs.Model.Rows.{covers_trans, covers_from, at_greatest, floor_mark, floor_over, full_stamp, join_left, join_right, join_mark, stamps_at}
@@ -33,37 +33,37 @@ use Rattle.group.proofs.Model.Histories.{Inv, shown_option}
 
 -- ---- what a site holds, by its servers
 
-in_joined : {A : Type 0} (x : A) (xss : List (List A)) → In x (joined xss) → (xs : List A) × In xs xss × In x xs
+in_joined : {A : Type 0} (x : A) (xss : List (List A)) → IsIn x (joined xss) → (xs : List A) × IsIn xs xss × IsIn x xs
 in_joined x [] i = absurd i
 in_joined x (xs ∷ xss) i = ⊎_elim (λ j. (xs, inl refl, j)) (λ j. let r = in_joined x xss j in (r.0, inr r.1, r.2)) (in_either x xs (joined xss) i)
 
-joined_in : {A : Type 0} (x : A) (xss : List (List A)) (xs : List A) → In xs xss → In x xs → In x (joined xss)
+joined_in : {A : Type 0} (x : A) (xss : List (List A)) (xs : List A) → IsIn xs xss → IsIn x xs → IsIn x (joined xss)
 joined_in x [] xs i j = absurd i
-joined_in x (ys ∷ xss) xs (inl e) j = in_left x ys (joined xss) (subst (In x) e j)
+joined_in x (ys ∷ xss) xs (inl e) j = in_left x ys (joined xss) (subst (IsIn x) e j)
 joined_in x (ys ∷ xss) xs (inr i) j = in_right x ys (joined xss) (joined_in x xss xs i j)
 
-pub held_from : (g : GroupState) (s : ℕ) (w : Version) → In w (held_at g s) → (n : ℕ) × (n < g.partitions) × In w (g.server s n).held
+pub held_from : (g : GroupState) (s : ℕ) (w : Version) → IsIn w (versions_at g s) → (n : ℕ) × (n < g.partitions) × IsIn w (g.server s n).held
 held_from g s w i =
     let r = in_joined w (tabulate (λ n. (g.server s n).held) g.partitions) i in
     let f = first_in (λ n. (g.server s n).held) g.partitions r.0 r.1 in
-    (f.0, f.1, subst (In w) f.2 r.2)
+    (f.0, f.1, subst (IsIn w) f.2 r.2)
 
-pub held_in : (g : GroupState) (s n : ℕ) (w : Version) → n < g.partitions → In w (g.server s n).held → In w (held_at g s)
+pub held_in : (g : GroupState) (s n : ℕ) (w : Version) → n < g.partitions → IsIn w (g.server s n).held → IsIn w (versions_at g s)
 held_in g s n w l i = joined_in w (tabulate (λ m. (g.server s m).held) g.partitions) (g.server s n).held (in_first (λ m. (g.server s m).held) g.partitions n l) i
 
-pub showing_answer : (k : Kind) (g : GroupState) (i : ℕ) (o : Option Version) → (showing k g i o).0 ≡ Ok (shown_option o)
+pub showing_answer : (k : Kind) (g : GroupState) (i : ℕ) (o : Option Version) → (show k g i o).0 ≡ Ok (shown_option o)
 showing_answer k g i None = refl
 showing_answer k g i (Some w) = refl
 
-module _ {k : Kind} (law : LawfulKind k) {sites : ℕ} {h : History} {g : GroupState} {G : Ghost} (v : Inv k sites h g G) where
+module _ {k : Kind} (law : IsLawfulKind k) {sites : ℕ} {h : History} {g : GroupState} {G : Ghost} (v : Inv k sites h g G) where
   abbrev L : Shape
   L = shape g v.frame.layout.few_sites v.frame.layout.some_partitions
 
-  source_four : (w : Version) → In w G.log → w.source < 4
+  source_four : (w : Version) → IsIn w G.log → w.source < 4
   source_four w i = let s = v.core.logs.source w i in let f = v.frame.layout.few_sites in omega arith
 
   -- (a) a put is later than each put of its key in its past, of whatever key
-  pub put_later : (p q : Put) → Past h (of_put p) q → Later p q
+  pub put_later : (p q : Put) → Past h (of_put p) q → IsLater p q
   put_later p q past =
       let b = v.core.pasts.of_put_lem p q past in
       let r = b.reached in
@@ -84,23 +84,23 @@ module _ {k : Kind} (law : LawfulKind k) {sites : ℕ} {h : History} {g : GroupS
     n = partition_of g key
 
     abbrev heard : ServerState
-    heard = hearing k g (session_at g i) (partition_of g key)
+    heard = informed_server k g (session_at g i) (partition_of g key)
 
     abbrev found : Option Version
-    found = latest_visible k (hearing k g (session_at g i) (partition_of g key)) key
+    found = latest_visible k (informed_server k g (session_at g i) (partition_of g key)) key
 
-    pub get_answer : (rule : Rule) → (asked rule k g (get i key)).0 ≡ Ok (shown_option (latest_visible k (hearing k g (session_at g i) (partition_of g key)) key))
+    pub get_answer : (rule : Rule) → (step rule k g (get i key)).0 ≡ Ok (shown_option (latest_visible k (informed_server k g (session_at g i) (partition_of g key)) key))
     get_answer rule =
-        ap (λ (r : Result (Option Shown) Refusal × GroupState). r.0) (cond-true (ltb i (length g.sessions)) (showing k (learning k g i (session_at g i) (partition_of g key)) i found) (Err NoSession, g) (lt-ltb _ _ l))
-        ∙ showing_answer k (learning k g i (session_at g i) (partition_of g key)) i found
+        ap (λ (r : Result (Option Shown) Refusal × GroupState). r.0) (cond-true (ltb i (length g.sessions)) (show k (learn k g i (session_at g i) (partition_of g key)) i found) (Err NoSession, g) (lt-ltb _ _ l))
+        ∙ showing_answer k (learn k g i (session_at g i) (partition_of g key)) i found
 
     get_latest : IsLatest (sees k heard) key (g.server s n).held found
     get_latest = latest_law (sees k heard) key heard.held
 
-    abbrev stable : Four
+    abbrev stable : PerSite
     stable = (g.server s n).marks.stable
 
-    abbrev knows : Four
+    abbrev knows : PerSite
     knows = (session_at g i).knows
 
     stable_mark : IsMark k (join (k.floor (g.server s n).marks.stable) (k.floor (session_at g i).knows))
@@ -123,14 +123,14 @@ module _ {k : Kind} (law : LawfulKind k) {sites : ℕ} {h : History} {g : GroupS
         x : StandsIn k (g.server s (part L r.version.key)).held (safe_mark k g s) r.version
         x = v.core.holds.kept r.version s (v.core.sessions i l).inside r.logged r.here
 
-        there : In x.other (g.server s n).held
-        there = subst (λ (z : ℕ). In x.other (g.server s (part L z)).held) key_is x.there
+        there : IsIn x.other (g.server s n).held
+        there = subst (λ (z : ℕ). IsIn x.other (g.server s (part L z)).held) key_is x.there
 
         seen_itself : (r.version.source ≡ s) ⊎ Covers (session_at g i).knows (full_mark k r.version) → sees k heard r.version ≡ true
         seen_itself (inl own) = or_left (eqb r.version.source heard.site) _ (eq-eqb _ _ (own ∙ sym (v.frame.servers s n).site_is))
         seen_itself (inr c) = seen_from r.version (covers_trans (join_right (k.floor stable) (k.floor knows)) (covers_trans (floor_over law (v.core.sessions i l).knows_mark) c))
 
-        seen : (x.other ≡ r.version) ⊎ (Later (name_of x.other) (name_of r.version) × Covers (safe_mark k g s) (full_mark k x.other)) → sees k heard x.other ≡ true
+        seen : (x.other ≡ r.version) ⊎ (IsLater (name_of x.other) (name_of r.version) × Covers (safe_mark k g s) (full_mark k x.other)) → sees k heard x.other ≡ true
         seen (inl e) = subst (λ (z : Version). sees k heard z ≡ true) (sym e) (seen_itself r.seen)
         seen (inr (_, c)) = seen_from x.other (covers_trans (join_left (k.floor stable) (k.floor knows)) (covers_trans (floor_over law (v.core.marks.stable_mark s n))
             (covers_trans (safe_stable law g s (safe_rows_lem law g v.frame.layout.few_sites v.frame.layout.some_partitions v.core s) n (part_small L key)) c)))
@@ -140,7 +140,7 @@ module _ {k : Kind} (law : LawfulKind k) {sites : ℕ} {h : History} {g : GroupS
 
         go : (o : Option Version) → IsLatest (sees k heard) key (g.server s n).held o → ShowsAsLate key (Ok (shown_option o)) p
         go None best = absurd (best x.other there passes)
-        go (Some w) best = subst (λ (z : Put). AsLate (name_of w) z) r.named (as_late_trans (name_of w) (name_of x.other) (name_of r.version) (best.2 x.other there passes) (stands_late x))
+        go (Some w) best = subst (λ (z : Put). IsAsLate (name_of w) z) r.named (as_late_trans (name_of w) (name_of x.other) (name_of r.version) (best.2 x.other there passes) (stands_late x))
 
     -- what the get shows was put
     pub shows_put : (u : Shown) → shown_option found ≡ Some u → WasPut h (put_shown key u) u.value
@@ -154,31 +154,31 @@ module _ {k : Kind} (law : LawfulKind k) {sites : ℕ} {h : History} {g : GroupS
             (subst (λ (z : ℕ). WasPut h (record { key = z; stamp = w.stamp; source = w.source }) w.value) best.1.0 (v.written w (v.core.holds.had w s n best.0).0))
 
     -- the get shows none exactly when the site holds no version of the key that the session may see
-    pub none_seen : shown_option found ≡ None → (w : Version) → In w (held_at g s) → w.key ≡ key → may_see k g i w ≡ true → ⊥
+    pub none_seen : shown_option found ≡ None → (w : Version) → IsIn w (versions_at g s) → w.key ≡ key → may_see k g i w ≡ true → ⊥
     none_seen e w i' same may = go found get_latest e
       where
-        held : In w (g.server s n).held
+        held : IsIn w (g.server s n).held
         held =
             let r = held_from g s w i' in
             let at_n : part L w.key ≡ r.0 = (v.core.holds.had w s r.0 r.2).1 in
-            subst (λ (z : ℕ). In w (g.server s (part L z)).held) same (subst (λ (z : ℕ). In w (g.server s z).held) (sym at_n) r.2)
+            subst (λ (z : ℕ). IsIn w (g.server s (part L z)).held) same (subst (λ (z : ℕ). IsIn w (g.server s z).held) (sym at_n) r.2)
 
         passes : Passes (sees k heard) key w
-        passes = (same, subst (λ (z : ℕ). sees k (hearing k g (session_at g i) (z % g.partitions)) w ≡ true) same may)
+        passes = (same, subst (λ (z : ℕ). sees k (informed_server k g (session_at g i) (z % g.partitions)) w ≡ true) same may)
 
         go : (o : Option Version) → IsLatest (sees k heard) key (g.server s n).held o → shown_option o ≡ None → ⊥
         go None best f = best w held passes
         go (Some u) best f = let z : ◌≡◌ {A = ℕ} 0 1 = cc in absurd (omega arith)
 
-    pub some_seen : (u : Shown) → shown_option found ≡ Some u → (w : Version) × In w (held_at g s) × (w.key ≡ key) × (may_see k g i w ≡ true)
+    pub some_seen : (u : Shown) → shown_option found ≡ Some u → (w : Version) × IsIn w (versions_at g s) × (w.key ≡ key) × (may_see k g i w ≡ true)
     some_seen u = go found get_latest
       where
-        go : (o : Option Version) → IsLatest (sees k heard) key (g.server s n).held o → shown_option o ≡ Some u → (w : Version) × In w (held_at g s) × (w.key ≡ key) × (may_see k g i w ≡ true)
+        go : (o : Option Version) → IsLatest (sees k heard) key (g.server s n).held o → shown_option o ≡ Some u → (w : Version) × IsIn w (versions_at g s) × (w.key ≡ key) × (may_see k g i w ≡ true)
         go None best e = let z : ◌≡◌ {A = ℕ} 0 1 = cc in absurd (omega arith)
-        go (Some w) best e = (w, held_in g s n w (part_small L key) best.0, best.1.0, subst (λ (z : ℕ). sees k (hearing k g (session_at g i) (z % g.partitions)) w ≡ true) (sym best.1.0) best.1.1)
+        go (Some w) best e = (w, held_in g s n w (part_small L key) best.0, best.1.0, subst (λ (z : ℕ). sees k (informed_server k g (session_at g i) (z % g.partitions)) w ≡ true) (sym best.1.0) best.1.1)
 
   -- a get that is answered is a get of an open session
-  pub get_open : (rule : Rule) (i key : ℕ) (o : Option Shown) → (asked rule k g (get i key)).0 ≡ Ok o → i < length g.sessions
+  pub get_open : (rule : Rule) (i key : ℕ) (o : Option Shown) → (step rule k g (get i key)).0 ≡ Ok o → i < length g.sessions
   get_open rule i key o =
       cond_both {A = Result (Option Shown) Refusal × GroupState} (ltb i (length g.sessions)) _ (Err NoSession, g) (λ r. r.0 ≡ Ok o → i < length g.sessions)
       (λ t e. ltb-true _ _ t) (λ _ e. let z : ◌≡◌ {A = ℕ} 0 1 = cc in absurd (omega arith))
@@ -187,13 +187,13 @@ module _ {k : Kind} (law : LawfulKind k) {sites : ℕ} {h : History} {g : GroupS
   ok_same e = cc
 
   -- what a get has answered is what was found
-  pub get_found : (rule : Rule) (i key : ℕ) (l : i < length g.sessions) (o : Option Shown) → (asked rule k g (get i key)).0 ≡ Ok o → shown_option (latest_visible k (hearing k g (session_at g i) (partition_of g key)) key) ≡ o
+  pub get_found : (rule : Rule) (i key : ℕ) (l : i < length g.sessions) (o : Option Shown) → (step rule k g (get i key)).0 ≡ Ok o → shown_option (latest_visible k (informed_server k g (session_at g i) (partition_of g key)) key) ≡ o
   get_found rule i key l o e = ok_same (sym (get_answer i key l rule) ∙ e)
 
   -- ---- puts have new names
 
   -- a done put has a stamp above its server's last one
-  put_above : (rule : Rule) → LawfulRule rule → (i key kind amount stamp : ℕ) → (asked rule k g (put i key kind amount)).0 ≡ Ok stamp →
+  put_above : (rule : Rule) → IsLawfulRule rule → (i key kind amount stamp : ℕ) → (step rule k g (put i key kind amount)).0 ≡ Ok stamp →
       (i < length g.sessions) × (last_of (g.server (session_at g i).site (partition_of g key)) < stamp)
   put_above rule clock i key kind amount stamp =
       cond_both {A = Result ℕ Refusal × GroupState} (ltb i (length g.sessions)) _ (Err NoSession, g) (λ r. r.0 ≡ Ok stamp → Good)
@@ -205,7 +205,7 @@ module _ {k : Kind} (law : LawfulKind k) {sites : ℕ} {h : History} {g : GroupS
       server : ServerState
       server = g.server y.site (partition_of g key)
 
-      dep : Four
+      dep : PerSite
       dep = k.floor y.depends
 
       Good : Type 0
@@ -214,22 +214,22 @@ module _ {k : Kind} (law : LawfulKind k) {sites : ℕ} {h : History} {g : GroupS
       refusal : {why : Refusal} → ◌≡◌ {A = Result ℕ Refusal} (Err why) (Ok stamp) → Good
       refusal e = let z : ◌≡◌ {A = ℕ} 0 1 = cc in absurd (omega arith)
 
-      with_worth : i < length g.sessions → (w : Result Value Refusal) → (put_worth rule k g i key y w).0 ≡ Ok stamp → Good
+      with_worth : i < length g.sessions → (w : Result Value Refusal) → (put_value rule k g i key y w).0 ≡ Ok stamp → Good
       with_worth l (Err why) = λ e. refusal e
       with_worth l (Ok value) =
-          cond_both {A = Result ℕ Refusal × ServerState} (table_full server.held) (Err TableFull, server) _ (λ r. (put_left k g i y key value r).0 ≡ Ok stamp → Good)
+          cond_both {A = Result ℕ Refusal × ServerState} (is_table_full server.held) (Err TableFull, server) _ (λ r. (put_left k g i y key value r).0 ≡ Ok stamp → Good)
           (λ _ e. refusal e)
-          (λ _. cond_both {A = Result ℕ Refusal × ServerState} (outbox_full server.site server.sites server.waiting) (Err OutboxFull, server) _ (λ r. (put_left k g i y key value r).0 ≡ Ok stamp → Good)
+          (λ _. cond_both {A = Result ℕ Refusal × ServerState} (is_outbox_full server.site server.sites server.waiting) (Err OutboxFull, server) _ (λ r. (put_left k g i y key value r).0 ≡ Ok stamp → Good)
           (λ _ e. refusal e)
           (λ _. stamped (rule (last_of server) server.reading (greatest dep))
           (clock.allowed (last_of server) server.reading (greatest dep) (stamps_at server.marks.received server.site (v.core.marks.received_stamps y.site (partition_of g key))) (v.frame.servers y.site (partition_of g key)).reading
           (let d = (floor_mark law (v.core.sessions i l).depends_mark.0).0 in omega arith))))
         where
-          stamped : (r : Result ℕ Refusal) → Allowed (last_of server) (greatest dep) r → (put_left k g i y key value (putting_at k server key value dep (k.floor y.knows) r)).0 ≡ Ok stamp → Good
+          stamped : (r : Result ℕ Refusal) → IsAllowed (last_of server) (greatest dep) r → (put_left k g i y key value (server_put_with k server key value dep (k.floor y.knows) r)).0 ≡ Ok stamp → Good
           stamped (Ok t) a e = let same : t ≡ stamp = ok_same e in (l, subst (λ (z : ℕ). last_of server < z) same a.0)
           stamped (Err why) a e = refusal e
 
-  pub put_new : (rule : Rule) → LawfulRule rule → (i key kind amount stamp : ℕ) (x : Value) → (asked rule k g (put i key kind amount)).0 ≡ Ok stamp →
+  pub put_new : (rule : Rule) → IsLawfulRule rule → (i key kind amount stamp : ℕ) (x : Value) → (step rule k g (put i key kind amount)).0 ≡ Ok stamp →
       WasPut h (record { key = key; stamp = stamp; source = site_of h i }) x → ⊥
   put_new rule clock i key kind amount stamp x e was =
       let a = put_above rule clock i key kind amount stamp e in

@@ -4,24 +4,24 @@ use Rattle.std.proofs.lemmas.List.{length-append}
 use Rattle.std.proofs.lemmas.Bool.{cond_both, eqb-true, leb-false, ltb-true, or_cases}
 use Rattle.stamps.specs.declared.refusal.Refusal.{Refusal}
 use Rattle.stamps.specs.declared.refusal.Refusal.TheVariants.{NotInLayout, NoSession, NoneFree, TableFull, OutboxFull}
-use Rattle.stamps.specs.Clocks.{Allowed, LawfulRule}
-use Rattle.stamps.specs.Rows.{Four, Covers, at, greatest, join, with_entry}
-use Rattle.stamps.specs.Kinds.{Kind, IsMark, LawfulKind}
+use Rattle.stamps.specs.Clocks.{IsAllowed, IsLawfulRule}
+use Rattle.stamps.specs.Rows.{PerSite, Covers, at, greatest, join, with_entry}
+use Rattle.stamps.specs.Kinds.{Kind, IsMark, IsLawfulKind}
 use Rattle.servers.specs.declared.entry.Entry.TheVariants.{Update}
-use Rattle.servers.specs.Laws.{In, IsLatest}
-use Rattle.servers.specs.Outboxes.{outbox_full}
-use Rattle.servers.specs.Servers.{Rule, ServerState, putting_at, put_version, issuing, keeping, last_of, raised as raised_server, sees, latest_visible}
-use Rattle.servers.specs.Tables.{covered, table_full}
+use Rattle.servers.specs.Laws.{IsIn, IsLatest}
+use Rattle.servers.specs.Outboxes.{is_outbox_full}
+use Rattle.servers.specs.Servers.{Rule, ServerState, server_put_with, put_version, server_issue, server_keep, last_of, server_raise as raised_server, sees, latest_visible}
+use Rattle.servers.specs.Tables.{is_covered, is_table_full}
 use Rattle.servers.specs.Values.{value_from}
 use Rattle.servers.specs.declared.value.Value.{Value}
 use Rattle.servers.specs.Versions.{full_mark}
 use Rattle.servers.specs.declared.version.Version.{Version}
 use Rattle.servers.proofs.Latest.{latest_law}
-use Rattle.group.specs.Model.Calls.{opened_session, on_session, put_left, put_worth, depending, shown_of, showing, hearing, learning}
-use Rattle.group.specs.Model.Events.{Put, AsLate, Shown, Ticket, open_session, put, get, told, session_opened, wrote, got, read_by, History}
+use Rattle.group.specs.Model.Calls.{open_session_step, on_session, put_left, put_value, with_depends, shown_of, show, informed_server, learn}
+use Rattle.group.specs.Model.Events.{Put, IsAsLate, Shown, Ticket, open_session, put, get, what_is_told, session_opened, wrote, got, read_by, History}
 use Rattle.group.specs.Model.Groups.{GroupState, SessionState, new_session, partition_of, session_at, with_server, with_sessions, with_session}
-use Rattle.group.specs.Model.Pasts.{Pasts, of_session, Past, seeing, writing, site_of}
-use Rattle.group.specs.Model.Promises.{Opened, WasPut}
+use Rattle.group.specs.Model.Pasts.{Pasts, of_session, Past, pasts_with_shown, pasts_with_put, site_of}
+use Rattle.group.specs.Model.Promises.{WasOpened, WasPut}
 use Rattle.group.proofs.Model.Rows.{covers_self, covers_trans, covers_true, covers_at, entry_rises, floor_mark, floor_over, floor_under, full_is_mark, full_mark_lem, full_stamp, join_left, join_right, join_least, join_mark, stamps_at}
 use Rattle.group.proofs.Model.Lists.{set1, set2, set1_cases, set2_cases, set1_other, set2_here, set2_same, get_d_push}
 use Rattle.group.proofs.Model.Invariant.{Shape, Ghost, tables, name_of, part, last, Had, Below, Reached, Core}
@@ -46,16 +46,16 @@ not_got : (t : Ticket) (key i j : ℕ) (o p : Option Shown) → read_by t key o 
 not_got t key i j o p e = let z : ◌≡◌ {A = ℕ} 0 1 = cc in omega arith
 
 -- session i has been shown w, and depends on it from then on
-pub see_core : {k : Kind} (law : LawfulKind k) {P : Pasts} {G : Ghost} (g : GroupState) (four : g.sites ≤ 4) (some : 1 ≤ g.partitions) (core : Core k (shape g four some) P (tables k g) G)
-    (i : ℕ) (w : Version) → i < length g.sessions → In w G.log → Had (shape g four some) (λ s n. (g.server s n).marks.received) (session_at g i).site w →
+pub see_core : {k : Kind} (law : IsLawfulKind k) {P : Pasts} {G : Ghost} (g : GroupState) (four : g.sites ≤ 4) (some : 1 ≤ g.partitions) (core : Core k (shape g four some) P (tables k g) G)
+    (i : ℕ) (w : Version) → i < length g.sessions → IsIn w G.log → Had (shape g four some) (λ s n. (g.server s n).marks.received) (session_at g i).site w →
     Clear law (shape g four some) (λ s n. (g.server s n).marks.stable) (session_at g i).site (session_at g i).knows w →
-    Core k (shape g four some) (seeing P i (name_of w)) (tables k (with_session g i (depending (session_at g i) (join (k.floor (session_at g i).depends) (full_mark k w))))) G
+    Core k (shape g four some) (pasts_with_shown P i (name_of w)) (tables k (with_session g i (with_depends (session_at g i) (join (k.floor (session_at g i).depends) (full_mark k w))))) G
 see_core {k} law {P} {G} g four some core i w l logged' had clear =
     let L = shape g four some in
     let x = session_at g i in
     let inv = core.sessions i l in
     let full = full_mark k w in
-    let x' = depending x (join (k.floor x.depends) full) in
+    let x' = with_depends x (join (k.floor x.depends) full) in
     let is_full = full_is_mark law w (core.logs.marked w logged') (let s = core.logs.source w logged' in omega arith) (core.logs.small w logged') in
     let grown = grow_session law g four some core i x' l refl (covers_trans (join_left (k.floor x.depends) full) (floor_over law inv.depends_mark)) (covers_self x.knows)
     (record { inside = inv.inside; depends_mark = join_mark law (floor_mark law inv.depends_mark.0) is_full; knows_mark = inv.knows_mark; knows_below = inv.knows_below }) in
@@ -66,16 +66,16 @@ see_core {k} law {P} {G} g four some core i w l logged' had clear =
     (subst (λ (y : SessionState). Clear law L (λ s n. (g.server s n).marks.stable) y.site y.knows w) (sym same) clear)
     grown
 
-module _ {k : Kind} (law : LawfulKind k) {sites : ℕ} {h : History} {g : GroupState} {G : Ghost} (v : Inv k sites h g G) where
+module _ {k : Kind} (law : IsLawfulKind k) {sites : ℕ} {h : History} {g : GroupState} {G : Ghost} (v : Inv k sites h g G) where
   abbrev L : Shape
   L = shape g v.frame.layout.few_sites v.frame.layout.some_partitions
 
   -- ---- opening a session
 
-  pub keeps_open : (site : ℕ) → Kept k sites h g G (told (open_session site) (opened_session g site).0) (opened_session g site).1
+  pub keeps_open : (site : ℕ) → Kept k sites h g G (what_is_told (open_session site) (open_session_step g site).0) (open_session_step g site).1
   keeps_open site =
-      cond_both {A = Result ℕ Refusal × GroupState} (ltb site g.sites) _ (Err NotInLayout, g) (λ r. Kept k sites h g G (told (open_session site) r.0) r.1)
-      (λ inside. cond_both {A = Result ℕ Refusal × GroupState} (leb 8 (length g.sessions)) (Err NoneFree, g) (Ok (length g.sessions), g') (λ r. Kept k sites h g G (told (open_session site) r.0) r.1)
+      cond_both {A = Result ℕ Refusal × GroupState} (ltb site g.sites) _ (Err NotInLayout, g) (λ r. Kept k sites h g G (what_is_told (open_session site) r.0) r.1)
+      (λ inside. cond_both {A = Result ℕ Refusal × GroupState} (leb 8 (length g.sessions)) (Err NoneFree, g) (Ok (length g.sessions), g') (λ r. Kept k sites h g G (what_is_told (open_session site) r.0) r.1)
       (λ _. refused_kept v)
       (λ room. opened (ltb-true _ _ inside) (leb-false _ _ room)))
       (λ _. refused_kept v)
@@ -136,10 +136,10 @@ module _ {k : Kind} (law : LawfulKind k) {sites : ℕ} {h : History} {g : GroupS
     ver t = put_version srv key value (k.floor x.depends) t
 
     abbrev server' : ℕ → ServerState
-    server' t = raised_server k (issuing (keeping srv (ver t)) (Update (ver t))) (k.floor x.knows)
+    server' t = raised_server k (server_issue (server_keep srv (ver t)) (Update (ver t))) (k.floor x.knows)
 
     abbrev session' : ℕ → SessionState
-    session' t = depending x (full_mark k (ver t))
+    session' t = with_depends x (full_mark k (ver t))
 
     abbrev g1 : ℕ → GroupState
     g1 t = with_server g s n (server' t)
@@ -147,7 +147,7 @@ module _ {k : Kind} (law : LawfulKind k) {sites : ℕ} {h : History} {g : GroupS
     abbrev g2 : ℕ → GroupState
     g2 t = with_session (g1 t) i (session' t)
 
-    module _ (t : ℕ) (room : table_full srv.held ≡ false) (free : outbox_full srv.site srv.sites srv.waiting ≡ false)
+    module _ (t : ℕ) (room : is_table_full srv.held ≡ false) (free : is_outbox_full srv.site srv.sites srv.waiting ≡ false)
         (new : last_of srv < t) (after : greatest (k.floor x.depends) < t) (small : t < 2 ^ 63) where
       abbrev G' : Ghost
       G' = record { log = ver t ∷ G.log; cut_of = G.cut_of; snap_site = G.snap_site }
@@ -164,7 +164,7 @@ module _ {k : Kind} (law : LawfulKind k) {sites : ℕ} {h : History} {g : GroupS
       stored : Core k L (Past h) (with_entries (tables k g) (set2 (λ a b. (g.server a b).held) s n (srv.held ++ (ver t ∷ []))) (receiving (λ a b. (g.server a b).marks.received) s n s t) (sending g.sites (λ a b. (g.server a b).waiting) s n (Update (ver t)))) G'
       stored = kept v.core s n in_s (ver t) site_is refl new' small marked after
 
-      stable' : Four
+      stable' : PerSite
       stable' = join (k.floor srv.marks.stable) (k.floor x.knows)
 
       stable_marked : IsMark k (join (k.floor srv.marks.stable) (k.floor x.knows))
@@ -218,7 +218,7 @@ module _ {k : Kind} (law : LawfulKind k) {sites : ℕ} {h : History} {g : GroupS
           subst (λ (z : ℕ). Reached k L (λ a b. ((g2 t).server a b).marks.received) (ver t ∷ G.log) z (ver t).mark ((g2 t).server (ver t).source n).marks.stable p) (sym site_is)
           (reached_rises risen (λ w j. inr j) (floor_over law (v.core.sessions i l).depends_mark) stable_knows (v.core.pasts.of_session_lem i p q))
 
-      core3 : Core k L (writing (Past h) i (name_of (ver t))) (tables k (g2 t)) G'
+      core3 : Core k L (pasts_with_put (Past h) i (name_of (ver t))) (tables k (g2 t)) G'
       core3 = written_too i (ver t) (subst (λ (z : ℕ). i < z) (sym (length-set g.sessions i (session' t))) l) (inl refl) source
           (subst (λ (z : ℕ). Had L (λ a b. ((g2 t).server a b).marks.received) z (ver t)) source (core2.logs.stamped (ver t) (inl refl)))
           (subst (λ (y : SessionState). Covers y.depends (full_mark k (ver t))) (sym same) (covers_self (full_mark k (ver t))))
@@ -244,23 +244,23 @@ module _ {k : Kind} (law : LawfulKind k) {sites : ℕ} {h : History} {g : GroupS
       best' : (q : ℕ) → q < g.next_serial → (j : ℕ) (o : Option Version) → Best k G.log (G.cut_of q) j o → Best k (ver t ∷ G.log) (G.cut_of q) j o
       best' q lq j None b = none
         where
-          none : (w : Version) → In w (ver t ∷ G.log) → w.key ≡ j → Covers (G.cut_of q) (full_mark k w) → ⊥
+          none : (w : Version) → IsIn w (ver t ∷ G.log) → w.key ≡ j → Covers (G.cut_of q) (full_mark k w) → ⊥
           none w (inl d) e c = uncovered q lq (subst (λ (u : Version). Covers (G.cut_of q) (full_mark k u)) d c)
           none w (inr m) e c = b w m e c
       best' q lq j (Some u) b = (inr b.0, b.1, b.2, top)
         where
-          top : (w : Version) → In w (ver t ∷ G.log) → w.key ≡ j → Covers (G.cut_of q) (full_mark k w) → AsLate (name_of u) (name_of w)
+          top : (w : Version) → IsIn w (ver t ∷ G.log) → w.key ≡ j → Covers (G.cut_of q) (full_mark k w) → IsAsLate (name_of u) (name_of w)
           top w (inl d) e c = absurd (uncovered q lq (subst (λ (z : Version). Covers (G.cut_of q) (full_mark k z)) d c))
           top w (inr m) e c = b.3 w m e c
 
       grows : Grows k g.next_serial g.next_serial G G'
       grows = record { more = le_refl g.next_serial; same_cut = λ q lq. refl; best = best' }
 
-      written' : (w : Version) → In w (ver t ∷ G.log) → WasPut (wrote i key kind amount t ∷ h) (name_of w) w.value
+      written' : (w : Version) → IsIn w (ver t ∷ G.log) → WasPut (wrote i key kind amount t ∷ h) (name_of w) w.value
       written' w (inl e) = subst (λ (z : Version). WasPut (wrote i key kind amount t ∷ h) (name_of z) z.value) (sym e) (inr (named, worth))
       written' w (inr j) = inl (v.written w j)
 
-      logged' : (p : Put) (y : Value) → WasPut (wrote i key kind amount t ∷ h) p y → (w : Version) × In w (ver t ∷ G.log) × (name_of w ≡ p)
+      logged' : (p : Put) (y : Value) → WasPut (wrote i key kind amount t ∷ h) p y → (w : Version) × IsIn w (ver t ∷ G.log) × (name_of w ≡ p)
       logged' p y (inl o) = let r = v.logged p y o in (r.0, inr r.1, r.2)
       logged' p y (inr (e, _)) = (ver t, inl refl, named ∙ sym e)
 
@@ -282,7 +282,7 @@ module _ {k : Kind} (law : LawfulKind k) {sites : ℕ} {h : History} {g : GroupS
             serials = v.frame.serials;
           };
           layout = v.layout;
-          core = subst (λ (p : Put). Core k L (writing (Past h) i p) (tables k (g2 t)) G') named core3;
+          core = subst (λ (p : Put). Core k L (pasts_with_put (Past h) i p) (tables k (g2 t)) G') named core3;
           hist = record {
             opened_known = still_opened v (length-set g.sessions i (session' t));
             sites_known = λ j lj. v.hist.sites_known j (subst (λ (z : ℕ). j < z) (length-set g.sessions i (session' t)) lj) ∙ sym (session_sites (g1 t) i (session' t) l refl j);
@@ -296,14 +296,14 @@ module _ {k : Kind} (law : LawfulKind k) {sites : ℕ} {h : History} {g : GroupS
         grows = grows;
       }
 
-  pub keeps_put : (rule : Rule) → LawfulRule rule → (i key kind amount : ℕ) →
-      Kept k sites h g G (told (put i key kind amount) (on_session g i (λ x. put_worth rule k g i key x (value_from kind amount))).0) (on_session g i (λ x. put_worth rule k g i key x (value_from kind amount))).1
+  pub keeps_put : (rule : Rule) → IsLawfulRule rule → (i key kind amount : ℕ) →
+      Kept k sites h g G (what_is_told (put i key kind amount) (on_session g i (λ x. put_value rule k g i key x (value_from kind amount))).0) (on_session g i (λ x. put_value rule k g i key x (value_from kind amount))).1
   keeps_put rule clock i key kind amount =
       cond_both {A = Result ℕ Refusal × GroupState} (ltb i (length g.sessions)) _ (Err NoSession, g) Fine
       (λ e. with_worth (ltb-true _ _ e) (value_from kind amount) refl) (λ _. refused_kept v)
     where
       Fine : Result ℕ Refusal × GroupState → Type 0
-      Fine r = Kept k sites h g G (told (put i key kind amount) r.0) r.1
+      Fine r = Kept k sites h g G (what_is_told (put i key kind amount) r.0) r.1
 
       y : SessionState
       y = session_at g i
@@ -311,15 +311,15 @@ module _ {k : Kind} (law : LawfulKind k) {sites : ℕ} {h : History} {g : GroupS
       server : ServerState
       server = g.server y.site (partition_of g key)
 
-      dep : Four
+      dep : PerSite
       dep = k.floor y.depends
 
-      with_worth : i < length g.sessions → (w : Result Value Refusal) → value_from kind amount ≡ w → Fine (put_worth rule k g i key y w)
+      with_worth : i < length g.sessions → (w : Result Value Refusal) → value_from kind amount ≡ w → Fine (put_value rule k g i key y w)
       with_worth l (Err why) e = refused_kept v
       with_worth l (Ok value) e =
-          cond_both {A = Result ℕ Refusal × ServerState} (table_full server.held) (Err TableFull, server) _ (λ r. Fine (put_left k g i y key value r))
+          cond_both {A = Result ℕ Refusal × ServerState} (is_table_full server.held) (Err TableFull, server) _ (λ r. Fine (put_left k g i y key value r))
           (λ _. refused_kept v)
-          (λ room. cond_both {A = Result ℕ Refusal × ServerState} (outbox_full server.site server.sites server.waiting) (Err OutboxFull, server) _ (λ r. Fine (put_left k g i y key value r))
+          (λ room. cond_both {A = Result ℕ Refusal × ServerState} (is_outbox_full server.site server.sites server.waiting) (Err OutboxFull, server) _ (λ r. Fine (put_left k g i y key value r))
           (λ _. refused_kept v)
           (λ free. stamped room free (rule (last_of server) server.reading (greatest dep))
           (clock.allowed (last_of server) server.reading (greatest dep) (stamps_at server.marks.received server.site (v.core.marks.received_stamps y.site (partition_of g key))) (v.frame.servers y.site (partition_of g key)).reading small_dep)))
@@ -327,8 +327,8 @@ module _ {k : Kind} (law : LawfulKind k) {sites : ℕ} {h : History} {g : GroupS
           small_dep : greatest dep < 2 ^ 63
           small_dep = let d = (floor_mark law (v.core.sessions i l).depends_mark.0).0 in omega arith
 
-          stamped : table_full server.held ≡ false → outbox_full server.site server.sites server.waiting ≡ false → (r : Result ℕ Refusal) → Allowed (last_of server) (greatest dep) r →
-              Fine (put_left k g i y key value (putting_at k server key value dep (k.floor y.knows) r))
+          stamped : is_table_full server.held ≡ false → is_outbox_full server.site server.sites server.waiting ≡ false → (r : Result ℕ Refusal) → IsAllowed (last_of server) (greatest dep) r →
+              Fine (put_left k g i y key value (server_put_with k server key value dep (k.floor y.knows) r))
           stamped room free (Ok t) a = put_kept i key kind amount l value e t room free a.0 a.1 a.2
           stamped room free (Err why) a = refused_kept v
 
@@ -336,15 +336,15 @@ module _ {k : Kind} (law : LawfulKind k) {sites : ℕ} {h : History} {g : GroupS
 
   module _ (i n : ℕ) (l : i < length g.sessions) where
     abbrev heard : ServerState
-    heard = hearing k g (session_at g i) n
+    heard = informed_server k g (session_at g i) n
 
     abbrev learnt : GroupState
-    learnt = learning k g i (session_at g i) n
+    learnt = learn k g i (session_at g i) n
 
     abbrev known : SessionState
     known = record { site = (session_at g i).site; depends = (session_at g i).depends; knows = heard.marks.stable }
 
-    pub learn_core : Core k L (Past h) (tables k (learning k g i (session_at g i) n)) G
+    pub learn_core : Core k L (Past h) (tables k (learn k g i (session_at g i) n)) G
     learn_core =
         let y = session_at g i in
         let inv = v.core.sessions i l in
@@ -360,7 +360,7 @@ module _ {k : Kind} (law : LawfulKind k) {sites : ℕ} {h : History} {g : GroupS
           knows_below = subst (λ (z : ServerState). Below L (λ a b. (g1.server a b).marks.received) y.site z.marks.stable) (set2_here g.server y.site n heard) (raised1.marks.stable_below y.site n);
         })
 
-    pub learn_frame : Frame (learning k g i (session_at g i) n)
+    pub learn_frame : Frame (learn k g i (session_at g i) n)
     learn_frame = record {
       layout = v.frame.layout;
       servers = server_frames law v (session_at g i).site n heard (let f = v.frame.servers (session_at g i).site n in record { site_is = f.site_is; sites_is = f.sites_is; versions = f.versions; entries = f.entries; reading = f.reading });
@@ -369,28 +369,28 @@ module _ {k : Kind} (law : LawfulKind k) {sites : ℕ} {h : History} {g : GroupS
       serials = v.frame.serials;
     }
 
-    pub learn_opened : (j : ℕ) → Opened j h → j < length learnt.sessions
+    pub learn_opened : (j : ℕ) → WasOpened j h → j < length learnt.sessions
     learn_opened = still_opened v (length-set g.sessions i known)
 
-    pub learn_sites : (j : ℕ) → j < length learnt.sessions → site_of h j ≡ (session_at (learning k g i (session_at g i) n) j).site
+    pub learn_sites : (j : ℕ) → j < length learnt.sessions → site_of h j ≡ (session_at (learn k g i (session_at g i) n) j).site
     learn_sites j lj =
         v.hist.sites_known j (subst (λ (z : ℕ). j < z) (length-set g.sessions i known) lj)
         ∙ sym (session_sites (with_server g (session_at g i).site n heard) i known l refl j)
 
-    pub learn_session : session_at (learning k g i (session_at g i) n) i ≡ record { site = (session_at g i).site; depends = (session_at g i).depends; knows = heard.marks.stable }
+    pub learn_session : session_at (learn k g i (session_at g i) n) i ≡ record { site = (session_at g i).site; depends = (session_at g i).depends; knows = heard.marks.stable }
     learn_session = session_here (with_server g (session_at g i).site n heard) i known l
 
   -- ---- a get
 
   pub keeps_get : (i key : ℕ) →
-      let r = on_session {A = Option Shown} g i (λ x. showing k (learning k g i x (partition_of g key)) i (latest_visible k (hearing k g x (partition_of g key)) key)) in
-      Kept k sites h g G (told (get i key) r.0) r.1
+      let r = on_session {A = Option Shown} g i (λ x. show k (learn k g i x (partition_of g key)) i (latest_visible k (informed_server k g x (partition_of g key)) key)) in
+      Kept k sites h g G (what_is_told (get i key) r.0) r.1
   keeps_get i key =
       cond_both {A = Result (Option Shown) Refusal × GroupState} (ltb i (length g.sessions)) _ (Err NoSession, g) Fine
       (λ e. found (ltb-true _ _ e) (latest_visible k heard' key) (latest_law (sees k heard') key heard'.held)) (λ _. refused_kept v)
     where
       Fine : Result (Option Shown) Refusal × GroupState → Type 0
-      Fine r = Kept k sites h g G (told (get i key) r.0) r.1
+      Fine r = Kept k sites h g G (what_is_told (get i key) r.0) r.1
 
       n : ℕ
       n = partition_of g key
@@ -399,12 +399,12 @@ module _ {k : Kind} (law : LawfulKind k) {sites : ℕ} {h : History} {g : GroupS
       y = session_at g i
 
       heard' : ServerState
-      heard' = hearing k g (session_at g i) (partition_of g key)
+      heard' = informed_server k g (session_at g i) (partition_of g key)
 
       g1 : GroupState
-      g1 = learning k g i (session_at g i) (partition_of g key)
+      g1 = learn k g i (session_at g i) (partition_of g key)
 
-      found : i < length g.sessions → (o : Option Version) → IsLatest (sees k heard') key heard'.held o → Fine (showing k g1 i o)
+      found : i < length g.sessions → (o : Option Version) → IsLatest (sees k heard') key heard'.held o → Fine (show k g1 i o)
       found l None best = record {
         ghost = G;
         inv = record {
@@ -435,7 +435,7 @@ module _ {k : Kind} (law : LawfulKind k) {sites : ℕ} {h : History} {g : GroupS
             serials = v.frame.serials;
           };
           layout = v.layout;
-          core = subst (λ (p : Put). Core k L (seeing (Past h) i p) (tables k (with_session g1 i x2)) G) (ap (λ (z : ℕ). record { key = z; stamp = w.stamp; source = w.source }) best.1.0)
+          core = subst (λ (p : Put). Core k L (pasts_with_shown (Past h) i p) (tables k (with_session g1 i x2)) G) (ap (λ (z : ℕ). record { key = z; stamp = w.stamp; source = w.source }) best.1.0)
               (see_core law g1 v.frame.layout.few_sites v.frame.layout.some_partitions core1 i w l1 logged' had clear);
           hist = record {
             opened_known = λ j o. subst (λ (z : ℕ). j < z) (sym (length-set g1.sessions i x2)) (learn_opened i (partition_of g key) l j o);
@@ -451,7 +451,7 @@ module _ {k : Kind} (law : LawfulKind k) {sites : ℕ} {h : History} {g : GroupS
       }
         where
           x2 : SessionState
-          x2 = depending (session_at g1 i) (join (k.floor (session_at g1 i).depends) (full_mark k w))
+          x2 = with_depends (session_at g1 i) (join (k.floor (session_at g1 i).depends) (full_mark k w))
 
           core1 : Core k L (Past h) (tables k g1) G
           core1 = learn_core i (partition_of g key) l
@@ -462,13 +462,13 @@ module _ {k : Kind} (law : LawfulKind k) {sites : ℕ} {h : History} {g : GroupS
           here : session_at g1 i ≡ known i (partition_of g key) l
           here = learn_session i (partition_of g key) l
 
-          held : In w (g1.server y.site n).held
-          held = subst (λ (z : ServerState). In w z.held) (sym (set2_here g.server y.site n heard')) best.0
+          held : IsIn w (g1.server y.site n).held
+          held = subst (λ (z : ServerState). IsIn w z.held) (sym (set2_here g.server y.site n heard')) best.0
 
-          had_there : In w G.log × (part L w.key ≡ n) × Had L (λ a b. (g1.server a b).marks.received) y.site w
+          had_there : IsIn w G.log × (part L w.key ≡ n) × Had L (λ a b. (g1.server a b).marks.received) y.site w
           had_there = core1.holds.had w y.site n held
 
-          logged' : In w G.log
+          logged' : IsIn w G.log
           logged' = had_there.0
 
           had : Had L (λ a b. (g1.server a b).marks.received) (session_at g1 i).site w
@@ -477,7 +477,7 @@ module _ {k : Kind} (law : LawfulKind k) {sites : ℕ} {h : History} {g : GroupS
           stable_mark : IsMark k heard'.marks.stable
           stable_mark = subst (λ (z : ServerState). IsMark k z.marks.stable) (set2_here g.server y.site n heard') (core1.marks.stable_mark y.site n)
 
-          clear' : (eqb w.source heard'.site ≡ true) ⊎ (covered k (k.floor heard'.marks.stable) w ≡ true) → Clear law L (λ a b. (g1.server a b).marks.stable) y.site heard'.marks.stable w
+          clear' : (eqb w.source heard'.site ≡ true) ⊎ (is_covered k (k.floor heard'.marks.stable) w ≡ true) → Clear law L (λ a b. (g1.server a b).marks.stable) y.site heard'.marks.stable w
           clear' (inl e) =
               let own = eqb-true _ _ e ∙ (v.frame.servers y.site n).site_is in
               inl (own, set2_cases g.server y.site n heard' w.source (part L w.key) (λ z. Covers heard'.marks.stable z.marks.stable) (λ _ _. covers_self heard'.marks.stable) (λ no'. absurd (no' own had_there.1)))
@@ -485,4 +485,4 @@ module _ {k : Kind} (law : LawfulKind k) {sites : ℕ} {h : History} {g : GroupS
 
           clear : Clear law L (λ a b. (g1.server a b).marks.stable) (session_at g1 i).site (session_at g1 i).knows w
           clear = subst (λ (z : SessionState). Clear law L (λ a b. (g1.server a b).marks.stable) z.site z.knows w) (sym here)
-              (clear' (or_cases (eqb w.source heard'.site) (covered k (k.floor heard'.marks.stable) w) best.1.1))
+              (clear' (or_cases (eqb w.source heard'.site) (is_covered k (k.floor heard'.marks.stable) w) best.1.1))

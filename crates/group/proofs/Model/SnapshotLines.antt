@@ -3,21 +3,21 @@ use Rattle.std.proofs.Common.{◌≡◌, ℕ, ◌<◌, eqb, List, ◌∷◌, Som
 use Rattle.std.proofs.lemmas.Bool.{cond_both, cond-true, eq-eqb}
 use Rattle.stamps.specs.declared.refusal.Refusal.{Refusal}
 use Rattle.stamps.specs.declared.refusal.Refusal.TheVariants.{NotOpen}
-use Rattle.stamps.specs.Clocks.{LawfulRule}
-use Rattle.stamps.specs.Rows.{Four, Covers}
-use Rattle.stamps.specs.Kinds.{Kind, LawfulKind}
-use Rattle.servers.specs.Laws.{In, IsLatest}
-use Rattle.servers.specs.Servers.{Rule, latest_covered, raised as raised_server}
-use Rattle.servers.specs.Tables.{covered}
+use Rattle.stamps.specs.Clocks.{IsLawfulRule}
+use Rattle.stamps.specs.Rows.{PerSite, Covers}
+use Rattle.stamps.specs.Kinds.{Kind, IsLawfulKind}
+use Rattle.servers.specs.Laws.{IsIn, IsLatest}
+use Rattle.servers.specs.Servers.{Rule, latest_covered, server_raise as raised_server}
+use Rattle.servers.specs.Tables.{is_covered}
 use Rattle.servers.specs.Versions.{full_mark}
 use Rattle.servers.specs.declared.version.Version.{Version}
 use Rattle.servers.proofs.Latest.{latest_law}
-use Rattle.group.specs.Model.Calls.{asked, on_seat_of, showing, shown_of}
-use Rattle.group.specs.Model.Events.{Put, AsLate, Shown, put_shown, Ticket, Call, open_snapshot, read, told, read_by, History}
+use Rattle.group.specs.Model.Calls.{step, on_seat_of, show, shown_of}
+use Rattle.group.specs.Model.Events.{Put, IsAsLate, Shown, put_shown, Ticket, Call, open_snapshot, read, what_is_told, read_by, History}
 use Rattle.group.specs.Model.Groups.{GroupState, SeatState, partition_of, seat_at, session_at, with_server}
 use Rattle.group.specs.Model.GroupStore.{group_store}
 use Rattle.group.specs.Model.Pasts.{of_put, Past}
-use Rattle.group.specs.Model.Promises.{Open, SameAnswer, ShowsAsLate, WasPut}
+use Rattle.group.specs.Model.Promises.{IsOpen, IsSameAnswer, ShowsAsLate, WasPut}
 use Rattle.group.specs.Model.Stores.{Run, then, then_all, history}
 use Rattle.group.proofs.Model.Rows.{covers_trans, full_mark_lem}
 use Rattle.group.proofs.Model.Invariant.{Shape, Ghost, name_of, Before}
@@ -33,7 +33,7 @@ abbrev read_from : Kind → GroupState → ℕ → SeatState → Result (Option 
 read_from k g key y =
     let x = session_at g y.session in
     let s = raised_server k (g.server x.site (partition_of g key)) (k.floor y.cut) in
-    showing k (with_server g x.site (partition_of g key) s) y.session (latest_covered k s key (k.floor y.cut))
+    show k (with_server g x.site (partition_of g key) s) y.session (latest_covered k s key (k.floor y.cut))
 
 -- the version that it finds
 abbrev read_found : Kind → GroupState → ℕ → SeatState → Option Version
@@ -41,13 +41,13 @@ read_found k g key y =
     let x = session_at g y.session in
     latest_covered k (raised_server k (g.server x.site (partition_of g key)) (k.floor y.cut)) key (k.floor y.cut)
 
-module _ {k : Kind} (law : LawfulKind k) {sites : ℕ} {h : History} {g : GroupState} {G : Ghost} (v : Inv k sites h g G) where
+module _ {k : Kind} (law : IsLawfulKind k) {sites : ℕ} {h : History} {g : GroupState} {G : Ghost} (v : Inv k sites h g G) where
   abbrev L : Shape
   L = shape g v.frame.layout.few_sites v.frame.layout.some_partitions
 
   -- an open snapshot answers the latest version in the log that its cut covers
-  pub read_answers : (rule : Rule) (t : Ticket) (key : ℕ) → Open t h →
-      (o : Option Version) × ((asked rule k g (read t key)).0 ≡ Ok (shown_option o)) × (t.serial < g.next_serial) × Best k G.log (G.cut_of t.serial) key o
+  pub read_answers : (rule : Rule) (t : Ticket) (key : ℕ) → IsOpen t h →
+      (o : Option Version) × ((step rule k g (read t key)).0 ≡ Ok (shown_option o)) × (t.serial < g.next_serial) × Best k G.log (G.cut_of t.serial) key o
   read_answers rule t key op =
       let s = v.hist.open_known t op in
       let y = s.0 in
@@ -58,14 +58,14 @@ module _ {k : Kind} (law : LawfulKind k) {sites : ℕ} {h : History} {g : GroupS
             ∙ showing_answer k (with_server g x.site (partition_of g key) (raised_server k (g.server x.site (partition_of g key)) (k.floor y.cut))) y.session (read_found k g key y)),
         subst (λ (z : ℕ). z < g.next_serial) s.2 (v.core.seats t.seat y s.1).issued,
         subst (λ (z : ℕ). Best k G.log (G.cut_of z) key (read_found k g key y)) s.2
-            (read_best law v t.seat y s.1 key (read_found k g key y) (latest_law (covered k (k.floor y.cut)) key (g.server x.site (partition_of g key)).held)),
+            (read_best law v t.seat y s.1 key (read_found k g key y) (latest_law (is_covered k (k.floor y.cut)) key (g.server x.site (partition_of g key)).held)),
       )
 
   -- what a read shows was put
-  pub read_honest : (rule : Rule) (t : Ticket) (key : ℕ) (u : Shown) → (asked rule k g (read t key)).0 ≡ Ok (Some u) → WasPut h (put_shown key u) u.value
+  pub read_honest : (rule : Rule) (t : Ticket) (key : ℕ) (u : Shown) → (step rule k g (read t key)).0 ≡ Ok (Some u) → WasPut h (put_shown key u) u.value
   read_honest rule t key u = at_seat (seat_at g t.seat)
     where
-      shown : (y : SeatState) (o : Option Version) → IsLatest (covered k (k.floor y.cut)) key (g.server (session_at g y.session).site (partition_of g key)).held o →
+      shown : (y : SeatState) (o : Option Version) → IsLatest (is_covered k (k.floor y.cut)) key (g.server (session_at g y.session).site (partition_of g key)).held o →
           ◌≡◌ {A = Result (Option Shown) Refusal} (Ok (shown_option o)) (Ok (Some u)) → WasPut h (put_shown key u) u.value
       shown y None best e = let z : ◌≡◌ {A = ℕ} 0 1 = cc in absurd (omega arith)
       shown y (Some w) best e =
@@ -76,12 +76,12 @@ module _ {k : Kind} (law : LawfulKind k) {sites : ℕ} {h : History} {g : GroupS
       at_seat : (o : Option SeatState) → (on_seat_of g t.serial o (read_from k g key)).0 ≡ Ok (Some u) → WasPut h (put_shown key u) u.value
       at_seat None = λ e. let z : ◌≡◌ {A = ℕ} 0 1 = cc in absurd (omega arith)
       at_seat (Some y) = cond_both {A = Result (Option Shown) Refusal × GroupState} (eqb y.serial t.serial) (read_from k g key y) (Err NotOpen, g) (λ r. r.0 ≡ Ok (Some u) → WasPut h (put_shown key u) u.value)
-          (λ _ e. shown y (read_found k g key y) (latest_law (covered k (k.floor y.cut)) key (g.server (session_at g y.session).site (partition_of g key)).held)
+          (λ _ e. shown y (read_found k g key y) (latest_law (is_covered k (k.floor y.cut)) key (g.server (session_at g y.session).site (partition_of g key)).held)
           (sym (showing_answer k (with_server g (session_at g y.session).site (partition_of g key) (raised_server k (g.server (session_at g y.session).site (partition_of g key)) (k.floor y.cut))) y.session (read_found k g key y)) ∙ e))
           (λ _ e. let z : ◌≡◌ {A = ℕ} 0 1 = cc in absurd (omega arith))
 
   -- of one snapshot's answers, not one is older than a put of its key in the past of any of them
-  pub whole : (t : Ticket) (key other : ℕ) (o : Option Shown) (u : Shown) (p : Put) → In (read_by t key o) h → In (read_by t other (Some u)) h →
+  pub whole : (t : Ticket) (key other : ℕ) (o : Option Shown) (u : Shown) (p : Put) → IsIn (read_by t key o) h → IsIn (read_by t other (Some u)) h →
       Past h (of_put (put_shown other u)) p → p.key ≡ key → ShowsAsLate key (Ok o) p
   whole t key other o u p i j past same_key = go (v.reads t key o i) (v.reads t other (Some u) j)
     where
@@ -102,27 +102,27 @@ module _ {k : Kind} (law : LawfulKind k) {sites : ℕ} {h : History} {g : GroupS
 
       late : (f : Option Version) → Best k G.log (G.cut_of t.serial) key f → Covers (G.cut_of t.serial) (full_mark k b.reached.version) → ShowsAsLate key (Ok (shown_option f)) p
       late None best c = best b.reached.version b.reached.logged key_is c
-      late (Some w) best c = subst (λ (z : Put). AsLate (name_of w) z) b.reached.named (best.3 b.reached.version b.reached.logged key_is c)
+      late (Some w) best c = subst (λ (z : Put). IsAsLate (name_of w) z) b.reached.named (best.3 b.reached.version b.reached.logged key_is c)
 
       go : ReadRight k G g.next_serial t key o → ReadRight k G g.next_serial t other (Some u) → ShowsAsLate key (Ok o) p
       go r q = subst (λ (z : Option Shown). ShowsAsLate key (Ok z) p) (sym r.is) (late r.found r.best (below q.found q.is q.best))
 
 -- an open snapshot answers as right after its opening
-pub stays : {k : Kind} (law : LawfulKind k) (rule : Rule) (clock : LawfulRule rule) (sites : ℕ) (r : Run (group_store rule k sites)) (G : Ghost) → Inv k sites (history (group_store rule k sites) r) r.state G →
-    (i n : ℕ) (t : Ticket) → (asked rule k r.state (open_snapshot i n)).0 ≡ Ok t → (calls : List Call) →
+pub stays : {k : Kind} (law : IsLawfulKind k) (rule : Rule) (clock : IsLawfulRule rule) (sites : ℕ) (r : Run (group_store rule k sites)) (G : Ghost) → Inv k sites (history (group_store rule k sites) r) r.state G →
+    (i n : ℕ) (t : Ticket) → (step rule k r.state (open_snapshot i n)).0 ≡ Ok t → (calls : List Call) →
     let S = group_store rule k sites in
     let opened = then S r (open_snapshot i n) in
     let now = then_all S opened calls in
-    Open t (history S now) → (key : ℕ) → SameAnswer (asked rule k now.state (read t key)).0 (asked rule k opened.state (read t key)).0
+    IsOpen t (history S now) → (key : ℕ) → IsSameAnswer (step rule k now.state (read t key)).0 (step rule k opened.state (read t key)).0
 stays {k} law rule clock sites r G v i n t e calls op key =
     let S = group_store rule k sites in
     let opened = then S r (open_snapshot i n) in
     let now = then_all S opened calls in
     let one = keeps law rule clock v (open_snapshot i n) in
     let end = ran law rule clock sites opened one.ghost one.inv calls in
-    let first = read_answers law one.inv rule t key (subst (λ a. Open t (told (open_snapshot i n) a ∷ history S r)) (sym e) (inl refl)) in
+    let first = read_answers law one.inv rule t key (subst (λ a. IsOpen t (what_is_told (open_snapshot i n) a ∷ history S r)) (sym e) (inl refl)) in
     let second = read_answers law end.inv rule t key op in
     let cut = end.grows.same_cut t.serial first.2 in
-    let still = subst (λ (m : Four). Best k end.ghost.log m key first.0) (sym cut) (end.grows.best t.serial first.2 key first.0 first.3) in
+    let still = subst (λ (m : PerSite). Best k end.ghost.log m key first.0) (sym cut) (end.grows.best t.serial first.2 key first.0 first.3) in
     let same = best_same k end.ghost.log (end.ghost.cut_of t.serial) key end.inv.core.logs.unique first.0 second.0 still second.3 in
     (shown_option second.0, second.1, first.1 ∙ ap (λ (o : Option Version). Ok (shown_option o)) same)

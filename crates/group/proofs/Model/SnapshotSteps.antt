@@ -3,19 +3,19 @@ use Rattle.std.proofs.Common.{◌≡◌, ℕ, suc, ◌-◌, ◌^◌, ◌<◌, �
 use Rattle.std.proofs.lemmas.Bool.{cond_both, eqb-true, leb-false, ltb-true}
 use Rattle.stamps.specs.declared.refusal.Refusal.{Refusal}
 use Rattle.stamps.specs.declared.refusal.Refusal.TheVariants.{NotInLayout, NoSession, NoneFree, NotOpen, End}
-use Rattle.stamps.specs.Rows.{Four, Covers, join}
-use Rattle.stamps.specs.Kinds.{Kind, IsMark, LawfulKind}
-use Rattle.servers.specs.Laws.{In, IsLatest}
-use Rattle.servers.specs.Servers.{ServerState, raised as raised_server, latest_covered}
-use Rattle.servers.specs.Tables.{covered}
+use Rattle.stamps.specs.Rows.{PerSite, Covers, join}
+use Rattle.stamps.specs.Kinds.{Kind, IsMark, IsLawfulKind}
+use Rattle.servers.specs.Laws.{IsIn, IsLatest}
+use Rattle.servers.specs.Servers.{ServerState, server_raise as raised_server, latest_covered}
+use Rattle.servers.specs.Tables.{is_covered}
 use Rattle.servers.specs.Versions.{full_mark}
 use Rattle.servers.specs.declared.version.Version.{Version}
 use Rattle.servers.proofs.Latest.{latest_law}
-use Rattle.group.specs.Model.Calls.{depending, hearing, learning, on_seat, on_seat_of, on_session, showing, shown_of, snapshot_opened_at}
-use Rattle.group.specs.Model.Events.{Put, Shown, put_shown, Ticket, open_snapshot, read, close, told, snapshot_opened, read_by, snapshot_closed, Done, History}
+use Rattle.group.specs.Model.Calls.{with_depends, informed_server, learn, on_seat, on_seat_of, on_session, show, shown_of, open_snapshot_at}
+use Rattle.group.specs.Model.Events.{Put, Shown, put_shown, Ticket, open_snapshot, read, close, what_is_told, snapshot_opened, read_by, snapshot_closed, Done, History}
 use Rattle.group.specs.Model.Groups.{GroupState, SessionState, SeatState, partition_of, session_at, seat_at, with_server, with_session, with_seat, lowest_free}
-use Rattle.group.specs.Model.Pasts.{Past, seeing, reader_of}
-use Rattle.group.specs.Model.Promises.{Open}
+use Rattle.group.specs.Model.Pasts.{Past, pasts_with_shown, reader_of}
+use Rattle.group.specs.Model.Promises.{IsOpen}
 use Rattle.group.proofs.Model.Rows.{covers_self, covers_trans, covers_true, floor_mark, floor_under}
 use Rattle.group.proofs.Model.Lists.{set1, set1_cases, set1_here, set1_other, set2_here, get_d_set}
 use Rattle.group.proofs.Model.Invariant.{Shape, Ghost, tables, part, Had, Below, SeatInv, Core}
@@ -37,7 +37,7 @@ not_snapshot t u key i o e = let z : ◌≡◌ {A = ℕ} 0 1 = cc in omega arith
 read_same : (t u : Ticket) (key j : ℕ) (o p : Option Shown) → read_by t key o ≡ read_by u j p → (t ≡ u) × (key ≡ j) × (o ≡ p)
 read_same t u key j o p e = (cc, cc, cc)
 
-module _ {k : Kind} (law : LawfulKind k) {sites : ℕ} {h : History} {g : GroupState} {G : Ghost} (v : Inv k sites h g G) where
+module _ {k : Kind} (law : IsLawfulKind k) {sites : ℕ} {h : History} {g : GroupState} {G : Ghost} (v : Inv k sites h g G) where
   abbrev L : Shape
   L = shape g v.frame.layout.few_sites v.frame.layout.some_partitions
 
@@ -45,11 +45,11 @@ module _ {k : Kind} (law : LawfulKind k) {sites : ℕ} {h : History} {g : GroupS
 
   pub keeps_close : (t : Ticket) →
       let r = on_seat {A = Done} g t (λ y. (Ok tt, with_seat g t.seat None g.next_serial)) in
-      Kept k sites h g G (told (close t) r.0) r.1
+      Kept k sites h g G (what_is_told (close t) r.0) r.1
   keeps_close t = at_seat (seat_at g t.seat) refl
     where
       Fine : Result Done Refusal × GroupState → Type 0
-      Fine r = Kept k sites h g G (told (close t) r.0) r.1
+      Fine r = Kept k sites h g G (what_is_told (close t) r.0) r.1
 
       g' : GroupState
       g' = with_seat g t.seat None g.next_serial
@@ -59,7 +59,7 @@ module _ {k : Kind} (law : LawfulKind k) {sites : ℕ} {h : History} {g : GroupS
 
       -- what is open and not this snapshot is still open
       still : (y : SeatState) → seat_at g t.seat ≡ Some y → y.serial ≡ t.serial → t.seat < length g.seats →
-          (u : Ticket) → (u ≡ t → ⊥) × Open u h → (z : SeatState) × (seat_at g' u.seat ≡ Some z) × (z.serial ≡ u.serial)
+          (u : Ticket) → (u ≡ t → ⊥) × IsOpen u h → (z : SeatState) × (seat_at g' u.seat ≡ Some z) × (z.serial ≡ u.serial)
       still y there same la u (ne, op) =
           let o = v.hist.open_known u op in (
             o.0,
@@ -102,8 +102,8 @@ module _ {k : Kind} (law : LawfulKind k) {sites : ℕ} {h : History} {g : GroupS
   -- ---- opening
 
   pub keeps_snapshot : (i n : ℕ) →
-      let r = cond {A = Result Ticket Refusal × GroupState} (ltb n g.partitions) (on_session g i (λ x. snapshot_opened_at k g i x n (lowest_free g.seats))) (Err NotInLayout, g) in
-      Kept k sites h g G (told (open_snapshot i n) r.0) r.1
+      let r = cond {A = Result Ticket Refusal × GroupState} (ltb n g.partitions) (on_session g i (λ x. open_snapshot_at k g i x n (lowest_free g.seats))) (Err NotInLayout, g) in
+      Kept k sites h g G (what_is_told (open_snapshot i n) r.0) r.1
   keeps_snapshot i n =
       cond_both {A = Result Ticket Refusal × GroupState} (ltb n g.partitions) _ (Err NotInLayout, g) Fine
       (λ ln. cond_both {A = Result Ticket Refusal × GroupState} (ltb i (length g.sessions)) _ (Err NoSession, g) Fine
@@ -116,7 +116,7 @@ module _ {k : Kind} (law : LawfulKind k) {sites : ℕ} {h : History} {g : GroupS
       (λ _. refused_kept v)
     where
       Fine : Result Ticket Refusal × GroupState → Type 0
-      Fine r = Kept k sites h g G (told (open_snapshot i n) r.0) r.1
+      Fine r = Kept k sites h g G (what_is_told (open_snapshot i n) r.0) r.1
 
       seat : ℕ
       seat = lowest_free g.seats
@@ -128,19 +128,19 @@ module _ {k : Kind} (law : LawfulKind k) {sites : ℕ} {h : History} {g : GroupS
       ticket = record { seat = lowest_free g.seats; serial = g.next_serial }
 
       heard : ServerState
-      heard = hearing k g (session_at g i) n
+      heard = informed_server k g (session_at g i) n
 
-      m : Four
+      m : PerSite
       m = heard.marks.stable
 
       y : SeatState
-      y = record { session = i; serial = g.next_serial; cut = (hearing k g (session_at g i) n).marks.stable }
+      y = record { session = i; serial = g.next_serial; cut = (informed_server k g (session_at g i) n).marks.stable }
 
       g1 : GroupState
-      g1 = learning k g i (session_at g i) n
+      g1 = learn k g i (session_at g i) n
 
       g' : GroupState
-      g' = with_seat (learning k g i (session_at g i) n) (lowest_free g.seats) (Some (record { session = i; serial = g.next_serial; cut = (hearing k g (session_at g i) n).marks.stable })) (suc g.next_serial)
+      g' = with_seat (learn k g i (session_at g i) n) (lowest_free g.seats) (Some (record { session = i; serial = g.next_serial; cut = (informed_server k g (session_at g i) n).marks.stable })) (suc g.next_serial)
 
       opened : n < g.partitions → i < length g.sessions → seat < 4 → next < 2 ^ 32 - 1 → Kept k sites h g G (snapshot_opened i ticket) g'
       opened ln li free more = record {
@@ -209,7 +209,7 @@ module _ {k : Kind} (law : LawfulKind k) {sites : ℕ} {h : History} {g : GroupS
               (λ _ f. set1_other (reader_of h) g.next_serial i z.serial (older z.serial (v.core.seats b z f).issued) ∙ v.hist.readers_known b z f)
               (sym (ap (λ (f : ℕ → Option SeatState). f b) seats') ∙ e)
 
-          open' : (t : Ticket) → (t ≡ ticket) ⊎ Open t h → (z : SeatState) × (seat_at g' t.seat ≡ Some z) × (z.serial ≡ t.serial)
+          open' : (t : Ticket) → (t ≡ ticket) ⊎ IsOpen t h → (z : SeatState) × (seat_at g' t.seat ≡ Some z) × (z.serial ≡ t.serial)
           open' t (inl e) = subst (λ (u : Ticket). (z : SeatState) × (seat_at g' u.seat ≡ Some z) × (z.serial ≡ u.serial)) (sym e)
               (y, ap (λ (f : ℕ → Option SeatState). f (lowest_free g.seats)) seats' ∙ set1_here (seat_at g) (lowest_free g.seats) (Some y), refl)
           open' t (inr op) =
@@ -245,11 +245,11 @@ module _ {k : Kind} (law : LawfulKind k) {sites : ℕ} {h : History} {g : GroupS
         (subst (Below L (λ i j. (g.server i j).marks.received) (G.snap_site y.serial)) (sym seat.its_cut) (v.core.cuts.cut_below y.serial seat.issued))
 
     -- what the snapshot reads is the latest version in the log that its cut covers
-    pub read_best : (o : Option Version) → IsLatest (covered k (k.floor y.cut)) key (g.server s n).held o → Best k G.log (G.cut_of y.serial) key o
-    read_best o best = subst (λ (m : Four). Best k G.log m key o) seat.its_cut
+    pub read_best : (o : Option Version) → IsLatest (is_covered k (k.floor y.cut)) key (g.server s n).held o → Best k G.log (G.cut_of y.serial) key o
+    read_best o best = subst (λ (m : PerSite). Best k G.log m key o) seat.its_cut
         (best_read law L v.core y.cut s key (v.core.sessions y.session seat.known).inside cut_below
         (safe_cut law g s (safe_rows_lem law g v.frame.layout.few_sites v.frame.layout.some_partitions v.core s) a y there refl) o
-        (subst (λ (m : Four). IsLatest (covered k m) key (g.server s n).held o) (law.floor_own y.cut cut_mark.0 cut_mark.1) best))
+        (subst (λ (m : PerSite). IsLatest (is_covered k m) key (g.server s n).held o) (law.floor_own y.cut cut_mark.0 cut_mark.1) best))
 
     abbrev server' : ServerState
     server' = raised_server k (g.server s n) (k.floor y.cut)
@@ -264,8 +264,8 @@ module _ {k : Kind} (law : LawfulKind k) {sites : ℕ} {h : History} {g : GroupS
     frames = server_frames law v s n server' (let f = v.frame.servers s n in record { site_is = f.site_is; sites_is = f.sites_is; versions = f.versions; entries = f.entries; reading = f.reading })
 
     -- what this read answers is right, and so is what was read before
-    reads_right : (t : Ticket) → y.serial ≡ t.serial → (o : Option Version) → IsLatest (covered k (k.floor y.cut)) key (g.server s n).held o →
-        (u : Ticket) (j : ℕ) (p : Option Shown) → In (read_by u j p) (read_by t key (shown_option o) ∷ h) → ReadRight k G g.next_serial u j p
+    reads_right : (t : Ticket) → y.serial ≡ t.serial → (o : Option Version) → IsLatest (is_covered k (k.floor y.cut)) key (g.server s n).held o →
+        (u : Ticket) (j : ℕ) (p : Option Shown) → IsIn (read_by u j p) (read_by t key (shown_option o) ∷ h) → ReadRight k G g.next_serial u j p
     reads_right t same o best u j p (inl e) =
         let q = read_same u t j key p (shown_option o) e in
         let serials : y.serial ≡ u.serial = same ∙ sym (ap (λ (z : Ticket). z.serial) q.0) in
@@ -277,8 +277,8 @@ module _ {k : Kind} (law : LawfulKind k) {sites : ℕ} {h : History} {g : GroupS
         }
     reads_right t same o best u j p (inr i) = v.reads u j p i
 
-    pub read_kept : (t : Ticket) → t.seat ≡ a → y.serial ≡ t.serial → (o : Option Version) → IsLatest (covered k (k.floor y.cut)) key (g.server s n).held o →
-        Kept k sites h g G (told (read t key) (showing k g1 y.session o).0) (showing k g1 y.session o).1
+    pub read_kept : (t : Ticket) → t.seat ≡ a → y.serial ≡ t.serial → (o : Option Version) → IsLatest (is_covered k (k.floor y.cut)) key (g.server s n).held o →
+        Kept k sites h g G (what_is_told (read t key) (show k g1 y.session o).0) (show k g1 y.session o).1
     read_kept t at_a same None best = record {
       ghost = G;
       inv = record {
@@ -303,8 +303,8 @@ module _ {k : Kind} (law : LawfulKind k) {sites : ℕ} {h : History} {g : GroupS
           serials = v.frame.serials;
         };
         layout = v.layout;
-        core = subst (λ (z : ℕ). Core k L (seeing (Past h) z (put_shown key (shown_of w))) (tables k (with_session g1 y.session x2)) G) (sym (v.hist.readers_known a y there) ∙ ap (reader_of h) same)
-            (subst (λ (p : Put). Core k L (seeing (Past h) y.session p) (tables k (with_session g1 y.session x2)) G) (ap (λ (z : ℕ). record { key = z; stamp = w.stamp; source = w.source }) best.1.0)
+        core = subst (λ (z : ℕ). Core k L (pasts_with_shown (Past h) z (put_shown key (shown_of w))) (tables k (with_session g1 y.session x2)) G) (sym (v.hist.readers_known a y there) ∙ ap (reader_of h) same)
+            (subst (λ (p : Put). Core k L (pasts_with_shown (Past h) y.session p) (tables k (with_session g1 y.session x2)) G) (ap (λ (z : ℕ). record { key = z; stamp = w.stamp; source = w.source }) best.1.0)
             (see_core law g1 v.frame.layout.few_sites v.frame.layout.some_partitions core1 y.session w seat.known had_there.0 had_there.2 (inr clear)));
         hist = record {
           opened_known = still_opened v (length-set g.sessions y.session x2);
@@ -320,10 +320,10 @@ module _ {k : Kind} (law : LawfulKind k) {sites : ℕ} {h : History} {g : GroupS
     }
       where
         x2 : SessionState
-        x2 = depending (session_at g y.session) (join (k.floor (session_at g y.session).depends) (full_mark k w))
+        x2 = with_depends (session_at g y.session) (join (k.floor (session_at g y.session).depends) (full_mark k w))
 
-        had_there : In w G.log × (part L w.key ≡ n) × Had L (λ i j. (g1.server i j).marks.received) s w
-        had_there = core1.holds.had w s n (subst (λ (z : ServerState). In w z.held) (sym (set2_here g.server s n server')) best.0)
+        had_there : IsIn w G.log × (part L w.key ≡ n) × Had L (λ i j. (g1.server i j).marks.received) s w
+        had_there = core1.holds.had w s n (subst (λ (z : ServerState). IsIn w z.held) (sym (set2_here g.server s n server')) best.0)
 
         clear : Covers x.knows (full_mark k w)
         clear = covers_trans seat.covered (covers_trans (floor_under law cut_mark.0) (covers_true (k.floor y.cut) (full_mark k w) best.1.1))
@@ -332,26 +332,26 @@ module _ {k : Kind} (law : LawfulKind k) {sites : ℕ} {h : History} {g : GroupS
       let r = on_seat {A = Option Shown} g t (λ y.
       let x = session_at g y.session in
       let s = raised_server k (g.server x.site (partition_of g key)) (k.floor y.cut) in
-      showing k (with_server g x.site (partition_of g key) s) y.session (latest_covered k s key (k.floor y.cut))) in
-      Kept k sites h g G (told (read t key) r.0) r.1
+      show k (with_server g x.site (partition_of g key) s) y.session (latest_covered k s key (k.floor y.cut))) in
+      Kept k sites h g G (what_is_told (read t key) r.0) r.1
   keeps_read t key = at_seat (seat_at g t.seat) refl
     where
       Fine : Result (Option Shown) Refusal × GroupState → Type 0
-      Fine r = Kept k sites h g G (told (read t key) r.0) r.1
+      Fine r = Kept k sites h g G (what_is_told (read t key) r.0) r.1
 
       act : SeatState → Result (Option Shown) Refusal × GroupState
       act y =
           let x = session_at g y.session in
           let s = raised_server k (g.server x.site (partition_of g key)) (k.floor y.cut) in
-          showing k (with_server g x.site (partition_of g key) s) y.session (latest_covered k s key (k.floor y.cut))
+          show k (with_server g x.site (partition_of g key) s) y.session (latest_covered k s key (k.floor y.cut))
 
       at_seat : (o : Option SeatState) → seat_at g t.seat ≡ o → Fine (on_seat_of g t.serial o (λ y.
           let x = session_at g y.session in
           let s = raised_server k (g.server x.site (partition_of g key)) (k.floor y.cut) in
-          showing k (with_server g x.site (partition_of g key) s) y.session (latest_covered k s key (k.floor y.cut))))
+          show k (with_server g x.site (partition_of g key) s) y.session (latest_covered k s key (k.floor y.cut))))
       at_seat None e = refused_kept v
       at_seat (Some y) e = cond_both {A = Result (Option Shown) Refusal × GroupState} (eqb y.serial t.serial) _ (Err NotOpen, g) Fine
           (λ same. read_kept t.seat y e key t refl (eqb-true _ _ same)
           (latest_covered k (raised_server k (g.server (session_at g y.session).site (partition_of g key)) (k.floor y.cut)) key (k.floor y.cut))
-          (latest_law (covered k (k.floor y.cut)) key (g.server (session_at g y.session).site (partition_of g key)).held))
+          (latest_law (is_covered k (k.floor y.cut)) key (g.server (session_at g y.session).site (partition_of g key)).held))
           (λ _. refused_kept v)

@@ -1,13 +1,13 @@
 -- A group keeps its promises, for every clock rule and every kind of mark that show their meaning.
 use Rattle.std.proofs.Common.{ℕ, ◌<◌, [], Some, None, sym, refl, subst}
-use Rattle.stamps.specs.Clocks.{LawfulRule}
-use Rattle.stamps.specs.Kinds.{Kind, LawfulKind}
+use Rattle.stamps.specs.Clocks.{IsLawfulRule}
+use Rattle.stamps.specs.Kinds.{Kind, IsLawfulKind}
 use Rattle.servers.specs.Servers.{Rule}
-use Rattle.group.specs.Model.Groups.{made}
-use Rattle.group.specs.Model.GroupStore.{LayoutBounded, GroupKeepsPromises, group_store, held_at}
+use Rattle.group.specs.Model.Groups.{new_group}
+use Rattle.group.specs.Model.GroupStore.{IsLayoutBounded, GroupKeepsPromises, group_store, versions_at}
 use Rattle.group.specs.Model.Promises.{Promises, ShowsAsLate}
 use Rattle.group.specs.Model.Stores.{Run, history}
-use Rattle.servers.specs.Laws.{In}
+use Rattle.servers.specs.Laws.{IsIn}
 use Rattle.group.proofs.Model.Invariant.{Ghost}
 use Rattle.group.proofs.Model.Histories.{Inv}
 use Rattle.group.proofs.Model.Runs.{begins, no_ghost, ran}
@@ -17,7 +17,7 @@ use Rattle.group.proofs.Model.Agreement.{agree}
 use Rattle.group.proofs.Model.Ranges.{bounded}
 
 -- the promises after a run whose state has the invariant
-promises : {k : Kind} (law : LawfulKind k) (rule : Rule) (clock : LawfulRule rule) (sites : ℕ) (r : Run (group_store rule k sites)) (G : Ghost) →
+promises : {k : Kind} (law : IsLawfulKind k) (rule : Rule) (clock : IsLawfulRule rule) (sites : ℕ) (r : Run (group_store rule k sites)) (G : Ghost) →
     Inv k sites (history (group_store rule k sites) r) r.state G → Promises (group_store rule k sites) r
 promises {k} law rule clock sites r G v = record {
   put_later = λ p q past _. put_later law v p q past;
@@ -33,18 +33,18 @@ promises {k} law rule clock sites r G v = record {
   get_answers = λ i key o. (_, get_answer law v i key (v.hist.opened_known i o) rule);
   get_none = λ i key e w held.
       let l = get_open law v rule i key None e in
-      none_seen law v i key l (get_found law v rule i key l None e) w (subst (λ (z : ℕ). In w (held_at r.state z)) (v.hist.sites_known i l) held);
+      none_seen law v i key l (get_found law v rule i key l None e) w (subst (λ (z : ℕ). IsIn w (versions_at r.state z)) (v.hist.sites_known i l) held);
   get_some = λ i key u e.
       let l = get_open law v rule i key (Some u) e in
       let s = some_seen law v i key l u (get_found law v rule i key l (Some u) e) in
-      (s.0, subst (λ (z : ℕ). In s.0 (held_at r.state z)) (sym (v.hist.sites_known i l)) s.1, s.2, s.3);
+      (s.0, subst (λ (z : ℕ). IsIn s.0 (versions_at r.state z)) (sym (v.hist.sites_known i l)) s.1, s.2, s.3);
   bounded = bounded v;
 }
   where
     inside : {s : ℕ} → s < sites → s < r.state.sites
     inside {s} l = subst (λ (z : ℕ). s < z) (sym v.layout) l
 
-pub keeps_promises : {k : Kind} → LawfulKind k → (rule : Rule) → LawfulRule rule → (sites partitions : ℕ) → LayoutBounded sites partitions → GroupKeepsPromises rule k sites partitions
+pub keeps_promises : {k : Kind} → IsLawfulKind k → (rule : Rule) → IsLawfulRule rule → (sites partitions : ℕ) → IsLayoutBounded sites partitions → GroupKeepsPromises rule k sites partitions
 keeps_promises law rule clock sites partitions layout calls =
-    let end = ran law rule clock sites (record { events = []; state = made sites partitions }) no_ghost (begins law sites partitions layout) calls in
+    let end = ran law rule clock sites (record { events = []; state = new_group sites partitions }) no_ghost (begins law sites partitions layout) calls in
     promises law rule clock sites _ end.ghost end.inv

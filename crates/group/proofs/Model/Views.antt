@@ -2,7 +2,7 @@
 use Rattle.std.proofs.Common.{◌≡◌, ℕ, suc, ◌<◌, List, [], ◌∷◌, ◌++◌, length, get_or, Some, None, Option, sym, refl, ap, ◌∙◌, ⊎_elim, add-one, arith, length-set}
 use Rattle.std.proofs.lemmas.List.{get_or_past, length-append}
 use Rattle.std.proofs.lemmas.Bool.{cases_lt}
-use Rattle.stamps.specs.Rows.{Four}
+use Rattle.stamps.specs.Rows.{PerSite}
 use Rattle.stamps.specs.Kinds.{Kind}
 use Rattle.servers.specs.declared.entry.Entry.{Entry}
 use Rattle.servers.specs.Servers.{ServerState}
@@ -14,7 +14,7 @@ use Rattle.group.proofs.Model.Invariant.{Tables, tables}
 
 module _ (k : Kind) (g : GroupState) where
   -- one server replaced: the fields of its place change
-  pub tables_server : (s n : ℕ) (x : ServerState) {held : ℕ → ℕ → List Version} {received reported stable : ℕ → ℕ → Four} {waits : ℕ → ℕ → ℕ → List Entry} →
+  pub tables_server : (s n : ℕ) (x : ServerState) {held : ℕ → ℕ → List Version} {received reported stable : ℕ → ℕ → PerSite} {waits : ℕ → ℕ → ℕ → List Entry} →
       set2 (λ i m. (g.server i m).held) s n x.held ≡ held →
       set2 (λ i m. (g.server i m).marks.received) s n x.marks.received ≡ received →
       set2 (λ i m. (g.server i m).marks.reported) s n x.marks.reported ≡ reported →
@@ -35,7 +35,7 @@ module _ (k : Kind) (g : GroupState) where
     safe = safe_mark k (with_server g s n x);
   }
 
-  abbrev others : ℕ → (ℕ → SessionState) → (ℕ → Option SeatState) → ℕ → (ℕ → Four) → Tables
+  abbrev others : ℕ → (ℕ → SessionState) → (ℕ → Option SeatState) → ℕ → (ℕ → PerSite) → Tables
   others opened session seat next safe = record {
     held = λ s n. (g.server s n).held;
     received = λ s n. (g.server s n).marks.received;

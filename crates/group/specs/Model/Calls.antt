@@ -2,11 +2,11 @@
 use Rattle.std.specs.Prelude.{ℕ, suc, ◌-◌, ◌^◌, Bool, cond, [], ◌∷◌, ◌++◌, length, Some, None, Ok, Err, Option, Result, ◌==◌, nat_le, nat_lt}
 use Rattle.stamps.specs.declared.refusal.Refusal.{Refusal}
 use Rattle.stamps.specs.declared.refusal.Refusal.TheVariants.{NotInLayout, NoSession, NoneFree, NothingWaits, NotOpen, End}
-use Rattle.stamps.specs.Rows.{Four, join}
+use Rattle.stamps.specs.Rows.{PerSite, join}
 use Rattle.stamps.specs.Kinds.{Kind}
 use Rattle.servers.specs.declared.entry.Entry.{Entry}
 use Rattle.servers.specs.Outboxes.{next_for}
-use Rattle.servers.specs.Servers.{Rule, ServerState, telling, heartbeating, putting, put_version, handing, taking, lead_of, raised, reporting, latest_visible, latest_covered, tidied_up}
+use Rattle.servers.specs.Servers.{Rule, ServerState, server_tell, server_heartbeat, server_put, put_version, server_hand_over, server_take, lead_of, server_raise, server_report, latest_visible, latest_covered, server_tidy}
 use Rattle.servers.specs.Values.{value_from}
 use Rattle.servers.specs.declared.value.Value.{Value}
 use Rattle.servers.specs.Versions.{full_mark}
@@ -45,97 +45,97 @@ abbrev pub on_seat : {A : Type 0} → GroupState → Ticket → (SeatState → R
 on_seat g ticket act = on_seat_of g ticket.serial (seat_at g ticket.seat) act
 
 -- open session
-abbrev pub opened_session : GroupState → ℕ → Result ℕ Refusal × GroupState
-opened_session g site =
+abbrev pub open_session_step : GroupState → ℕ → Result ℕ Refusal × GroupState
+open_session_step g site =
     cond (nat_lt site g.sites)
     (cond (nat_le 8 (length g.sessions)) (Err NoneFree, g) (Ok (length g.sessions), with_sessions g (g.sessions ++ (new_session site ∷ []))))
     (Err NotInLayout, g)
 
 -- a session depends on this mark from then on
-abbrev pub depending : SessionState → Four → SessionState
-depending x depends = record x { depends = depends }
+abbrev pub with_depends : SessionState → PerSite → SessionState
+with_depends x depends = record x { depends = depends }
 
 -- put: the session depends from then on on the new version
 abbrev pub put_left : Kind → GroupState → ℕ → SessionState → ℕ → Value → Result ℕ Refusal × ServerState → Result ℕ Refusal × GroupState
 put_left k g i x key value (Err why, s) = (Err why, g)
 put_left k g i x key value (Ok stamp, s) =
     let v = put_version (g.server x.site (partition_of g key)) key value (k.floor x.depends) stamp in
-    (Ok stamp, with_session (with_server g x.site (partition_of g key) s) i (depending x (full_mark k v)))
+    (Ok stamp, with_session (with_server g x.site (partition_of g key) s) i (with_depends x (full_mark k v)))
 
-abbrev pub put_worth : Rule → Kind → GroupState → ℕ → ℕ → SessionState → Result Value Refusal → Result ℕ Refusal × GroupState
-put_worth rule k g i key x (Err why) = (Err why, g)
-put_worth rule k g i key x (Ok value) =
-    put_left k g i x key value (putting rule k (g.server x.site (partition_of g key)) key value (k.floor x.depends) (k.floor x.knows))
+abbrev pub put_value : Rule → Kind → GroupState → ℕ → ℕ → SessionState → Result Value Refusal → Result ℕ Refusal × GroupState
+put_value rule k g i key x (Err why) = (Err why, g)
+put_value rule k g i key x (Ok value) =
+    put_left k g i x key value (server_put rule k (g.server x.site (partition_of g key)) key value (k.floor x.depends) (k.floor x.knows))
 
 -- a session was shown a version, or none: it depends on the version from then on
 abbrev pub shown_of : Version → Shown
 shown_of v = record { value = v.value; stamp = v.stamp; source = v.source }
 
-abbrev pub depending_on : Kind → GroupState → ℕ → Version → GroupState
-depending_on k g i v =
+abbrev pub depend : Kind → GroupState → ℕ → Version → GroupState
+depend k g i v =
     let x = session_at g i in
-    with_session g i (depending x (join (k.floor x.depends) (full_mark k v)))
+    with_session g i (with_depends x (join (k.floor x.depends) (full_mark k v)))
 
-abbrev pub showing : Kind → GroupState → ℕ → Option Version → Result (Option Shown) Refusal × GroupState
-showing k g i None = (Ok None, g)
-showing k g i (Some v) = (Ok (Some (shown_of v)), depending_on k g i v)
+abbrev pub show : Kind → GroupState → ℕ → Option Version → Result (Option Shown) Refusal × GroupState
+show k g i None = (Ok None, g)
+show k g i (Some v) = (Ok (Some (shown_of v)), depend k g i v)
 
 -- a session's server hears what the session knows, and the session knows its stable mark from then on
-abbrev pub hearing : Kind → GroupState → SessionState → ℕ → ServerState
-hearing k g x partition = raised k (g.server x.site partition) (k.floor x.knows)
+abbrev pub informed_server : Kind → GroupState → SessionState → ℕ → ServerState
+informed_server k g x partition = server_raise k (g.server x.site partition) (k.floor x.knows)
 
-abbrev pub learning : Kind → GroupState → ℕ → SessionState → ℕ → GroupState
-learning k g i x partition =
-    let s = hearing k g x partition in
+abbrev pub learn : Kind → GroupState → ℕ → SessionState → ℕ → GroupState
+learn k g i x partition =
+    let s = informed_server k g x partition in
     with_session (with_server g x.site partition s) i (record x { knows = s.marks.stable })
 
 -- open snapshot: the seat is the lowest free one
-abbrev pub snapshot_opened_at : Kind → GroupState → ℕ → SessionState → ℕ → ℕ → Result Ticket Refusal × GroupState
-snapshot_opened_at k g i x partition seat =
+abbrev pub open_snapshot_at : Kind → GroupState → ℕ → SessionState → ℕ → ℕ → Result Ticket Refusal × GroupState
+open_snapshot_at k g i x partition seat =
     cond (nat_le 4 seat) (Err NoneFree, g)
     (cond (nat_le (2 ^ 32 - 1) g.next_serial) (Err End, g) (
       Ok (record { seat = seat; serial = g.next_serial }),
-      with_seat (learning k g i x partition) seat
-          (Some (record { session = i; serial = g.next_serial; cut = (hearing k g x partition).marks.stable })) (suc g.next_serial),
+      with_seat (learn k g i x partition) seat
+          (Some (record { session = i; serial = g.next_serial; cut = (informed_server k g x partition).marks.stable })) (suc g.next_serial),
     ))
 
 -- deliver: the next entry that waits, if there is one, is taken, and then it is taken out of the outbox
-abbrev pub took_left : GroupState → ℕ → ℕ → ℕ → Result Done Refusal × ServerState → Result Done Refusal × GroupState
-took_left g from to partition (Err why, s) = (Err why, g)
-took_left g from to partition (Ok done, s) =
-    (Ok done, with_server (with_server g to partition s) from partition (handing (g.server from partition) to))
+abbrev pub deliver_left : GroupState → ℕ → ℕ → ℕ → Result Done Refusal × ServerState → Result Done Refusal × GroupState
+deliver_left g from to partition (Err why, s) = (Err why, g)
+deliver_left g from to partition (Ok done, s) =
+    (Ok done, with_server (with_server g to partition s) from partition (server_hand_over (g.server from partition) to))
 
-abbrev pub delivered : GroupState → ℕ → ℕ → ℕ → Option Entry → Result Done Refusal × GroupState
-delivered g from to partition None = (Err NothingWaits, g)
-delivered g from to partition (Some e) = took_left g from to partition (taking (g.server to partition) from e)
+abbrev pub deliver_entry : GroupState → ℕ → ℕ → ℕ → Option Entry → Result Done Refusal × GroupState
+deliver_entry g from to partition None = (Err NothingWaits, g)
+deliver_entry g from to partition (Some e) = deliver_left g from to partition (server_take (g.server to partition) from e)
 
 -- tidy: what no snapshot of the site, open or yet to be opened, can need is dropped
-abbrev pub safe_mark : Kind → GroupState → ℕ → Four
+abbrev pub safe_mark : Kind → GroupState → ℕ → PerSite
 safe_mark k g site = common_floor k (stable_at g site ++ cuts_at g site)
 
-abbrev pub counted : {A : Type 0} → A × ServerState → Result A Refusal × ServerState
-counted (n, s) = (Ok n, s)
+abbrev pub with_ok : {A : Type 0} → A × ServerState → Result A Refusal × ServerState
+with_ok (n, s) = (Ok n, s)
 
-abbrev pub asked : Rule → Kind → GroupState → (call : Call) → Answer call × GroupState
-asked rule k g (open_session site) = opened_session g site
-asked rule k g (tell site partition time) = on_server g site partition (λ s. telling s time)
-asked rule k g (put i key kind amount) = on_session g i (λ x. put_worth rule k g i key x (value_from kind amount))
-asked rule k g (get i key) =
-    on_session g i (λ x. showing k (learning k g i x (partition_of g key)) i (latest_visible k (hearing k g x (partition_of g key)) key))
-asked rule k g (heartbeat site partition) = on_server g site partition (heartbeating rule)
-asked rule k g (deliver from to partition) =
+abbrev pub step : Rule → Kind → GroupState → (call : Call) → Answer call × GroupState
+step rule k g (open_session site) = open_session_step g site
+step rule k g (tell site partition time) = on_server g site partition (λ s. server_tell s time)
+step rule k g (put i key kind amount) = on_session g i (λ x. put_value rule k g i key x (value_from kind amount))
+step rule k g (get i key) =
+    on_session g i (λ x. show k (learn k g i x (partition_of g key)) i (latest_visible k (informed_server k g x (partition_of g key)) key))
+step rule k g (heartbeat site partition) = on_server g site partition (server_heartbeat rule)
+step rule k g (deliver from to partition) =
     cond (is_line g.sites g.partitions from to partition)
-    (delivered g from to partition (next_for (g.server from partition).waiting to))
+    (deliver_entry g from to partition (next_for (g.server from partition).waiting to))
     (Err NotInLayout, g)
-asked rule k g (report site partition) = change_server g site partition (reporting k)
-asked rule k g (stabilise site partition) = change_server g site partition (λ s. raised k s (common_floor k (reported_at g site)))
-asked rule k g (open_snapshot i partition) =
-    cond (nat_lt partition g.partitions) (on_session g i (λ x. snapshot_opened_at k g i x partition (lowest_free g.seats))) (Err NotInLayout, g)
-asked rule k g (read ticket key) =
+step rule k g (report site partition) = change_server g site partition (server_report k)
+step rule k g (stabilise site partition) = change_server g site partition (λ s. server_raise k s (common_floor k (reported_at g site)))
+step rule k g (open_snapshot i partition) =
+    cond (nat_lt partition g.partitions) (on_session g i (λ x. open_snapshot_at k g i x partition (lowest_free g.seats))) (Err NotInLayout, g)
+step rule k g (read ticket key) =
     on_seat g ticket (λ y.
     let x = session_at g y.session in
-    let s = raised k (g.server x.site (partition_of g key)) (k.floor y.cut) in
-    showing k (with_server g x.site (partition_of g key) s) y.session (latest_covered k s key (k.floor y.cut)))
-asked rule k g (close ticket) = on_seat g ticket (λ y. (Ok tt, with_seat g ticket.seat None g.next_serial))
-asked rule k g (tidy site partition) = on_server g site partition (λ s. counted (tidied_up k s (safe_mark k g site)))
-asked rule k g (lead site partition) = cond (has_server g site partition) (Ok (lead_of (g.server site partition)), g) (Err NotInLayout, g)
+    let s = server_raise k (g.server x.site (partition_of g key)) (k.floor y.cut) in
+    show k (with_server g x.site (partition_of g key) s) y.session (latest_covered k s key (k.floor y.cut)))
+step rule k g (close ticket) = on_seat g ticket (λ y. (Ok tt, with_seat g ticket.seat None g.next_serial))
+step rule k g (tidy site partition) = on_server g site partition (λ s. with_ok (server_tidy k s (safe_mark k g site)))
+step rule k g (lead site partition) = cond (has_server g site partition) (Ok (lead_of (g.server site partition)), g) (Err NotInLayout, g)

@@ -10,12 +10,12 @@ pub record Put : Type 0 where
   pub source : ℕ
 
 -- p is at least as late as q: q is not later
-abbrev pub AsLate : Put → Put → Type 0
-AsLate p q = (q.stamp ≤ p.stamp) × (q.stamp ≡ p.stamp → q.source ≤ p.source)
+abbrev pub IsAsLate : Put → Put → Type 0
+IsAsLate p q = (q.stamp ≤ p.stamp) × (q.stamp ≡ p.stamp → q.source ≤ p.source)
 
 -- p is later than q: a higher stamp, or at equal stamps a higher source
-abbrev pub Later : Put → Put → Type 0
-Later p q = (q.stamp ≤ p.stamp) × (q.stamp ≡ p.stamp → q.source < p.source)
+abbrev pub IsLater : Put → Put → Type 0
+IsLater p q = (q.stamp ≤ p.stamp) × (q.stamp ≡ p.stamp → q.source < p.source)
 
 -- What a get or a read shows of its key.
 pub record Shown : Type 0 where
@@ -54,19 +54,19 @@ Done = Unit {0}
 
 -- The answer to a call that is not refused: a session's number, a stamp, none or what is shown, a ticket, how many versions
 -- were dropped, how far the last stamp is ahead of the clock; or only that it is done.
-abbrev pub Answered : Call → Type 0
-Answered (open_session site) = ℕ
-Answered (put session key kind amount) = ℕ
-Answered (get session key) = Option Shown
-Answered (heartbeat site partition) = ℕ
-Answered (open_snapshot session partition) = Ticket
-Answered (read ticket key) = Option Shown
-Answered (tidy site partition) = ℕ
-Answered (lead site partition) = ℤ
-Answered call = Done
+abbrev pub Outcome : Call → Type 0
+Outcome (open_session site) = ℕ
+Outcome (put session key kind amount) = ℕ
+Outcome (get session key) = Option Shown
+Outcome (heartbeat site partition) = ℕ
+Outcome (open_snapshot session partition) = Ticket
+Outcome (read ticket key) = Option Shown
+Outcome (tidy site partition) = ℕ
+Outcome (lead site partition) = ℤ
+Outcome call = Done
 
 abbrev pub Answer : Call → Type 0
-Answer call = Result (Answered call) Refusal
+Answer call = Result (Outcome call) Refusal
 
 pub record Event : Type 0 where
   pub call : Call
@@ -83,14 +83,14 @@ pub data Told : Type 0 where
   snapshot_closed : Ticket → Told
   nothing : Told
 
-abbrev pub told : (call : Call) → Answer call → Told
-told (open_session site) (Ok session) = session_opened session site
-told (put session key kind amount) (Ok stamp) = wrote session key kind amount stamp
-told (get session key) (Ok v) = got session key v
-told (open_snapshot session partition) (Ok ticket) = snapshot_opened session ticket
-told (read ticket key) (Ok v) = read_by ticket key v
-told (close ticket) (Ok done) = snapshot_closed ticket
-told call answer = nothing
+abbrev pub what_is_told : (call : Call) → Answer call → Told
+what_is_told (open_session site) (Ok session) = session_opened session site
+what_is_told (put session key kind amount) (Ok stamp) = wrote session key kind amount stamp
+what_is_told (get session key) (Ok v) = got session key v
+what_is_told (open_snapshot session partition) (Ok ticket) = snapshot_opened session ticket
+what_is_told (read ticket key) (Ok v) = read_by ticket key v
+what_is_told (close ticket) (Ok done) = snapshot_closed ticket
+what_is_told call answer = nothing
 
 -- A history, by what its calls and their answers told, the newest first.
 abbrev pub History : Type 0
@@ -98,4 +98,4 @@ History = List Told
 
 abbrev pub history_of : List Event → History
 history_of [] = []
-history_of (e ∷ es) = told e.call e.answer ∷ history_of es
+history_of (e ∷ es) = what_is_told e.call e.answer ∷ history_of es

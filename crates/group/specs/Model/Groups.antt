@@ -1,20 +1,20 @@
 -- A group in plain numbers: its servers, its sessions and its open snapshots.
 use Rattle.std.specs.Prelude.{ℕ, zero, suc, ◌%◌, Bool, cond, not, ◌&&◌, List, [], ◌∷◌, ◌++◌, Some, None, Option, ◌==◌, nat_lt, slice_index_or, slice_set}
-use Rattle.stamps.specs.Rows.{Four, same}
-use Rattle.servers.specs.Servers.{ServerState, fresh}
+use Rattle.stamps.specs.Rows.{PerSite, same}
+use Rattle.servers.specs.Servers.{ServerState, new_server}
 
 -- The marks of a session are kept as their rows. Depends stands for what it has put and was shown, knows for the stable
 -- marks that it has met.
 pub record SessionState : Type 0 where
   pub site : ℕ
-  pub depends : Four
-  pub knows : Four
+  pub depends : PerSite
+  pub knows : PerSite
 
 -- an open snapshot: its session, its serial number, and the row of its cut
 pub record SeatState : Type 0 where
   pub session : ℕ
   pub serial : ℕ
-  pub cut : Four
+  pub cut : PerSite
 
 pub record GroupState : Type 0 where
   pub sites : ℕ
@@ -32,12 +32,12 @@ abbrev pub new_session : ℕ → SessionState
 new_session site = record { site = site; depends = same 0; knows = same 0 }
 
 -- a group as it is made
-abbrev pub made : ℕ → ℕ → GroupState
-made sites partitions =
+abbrev pub new_group : ℕ → ℕ → GroupState
+new_group sites partitions =
     record {
       sites = sites;
       partitions = partitions;
-      server = λ site partition. fresh site sites;
+      server = λ site partition. new_server site sites;
       sessions = [];
       seats = None ∷ None ∷ None ∷ None ∷ [];
       next_serial = 0;
@@ -91,17 +91,17 @@ tabulate f zero = []
 tabulate f (suc n) = tabulate f n ++ (f n ∷ [])
 
 -- the reported and the stable marks of a site's servers
-abbrev pub reported_at : GroupState → ℕ → List Four
+abbrev pub reported_at : GroupState → ℕ → List PerSite
 reported_at g site = tabulate (λ n. (g.server site n).marks.reported) g.partitions
 
-abbrev pub stable_at : GroupState → ℕ → List Four
+abbrev pub stable_at : GroupState → ℕ → List PerSite
 stable_at g site = tabulate (λ n. (g.server site n).marks.stable) g.partitions
 
 -- the cuts of the open snapshots of a site's sessions
-abbrev pub cuts_of : GroupState → ℕ → List (Option SeatState) → List Four
+abbrev pub cuts_of : GroupState → ℕ → List (Option SeatState) → List PerSite
 cuts_of g site [] = []
 cuts_of g site (None ∷ ys) = cuts_of g site ys
 cuts_of g site (Some y ∷ ys) = cond ((session_at g y.session).site == site) (y.cut ∷ cuts_of g site ys) (cuts_of g site ys)
 
-abbrev pub cuts_at : GroupState → ℕ → List Four
+abbrev pub cuts_at : GroupState → ℕ → List PerSite
 cuts_at g site = cuts_of g site g.seats

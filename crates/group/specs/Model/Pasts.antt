@@ -24,23 +24,23 @@ abbrev pub Pasts : Type 1
 Pasts = Who → Put → Type 0
 
 -- Session i put p: p stands in its past from now on, and what stood there before is the past of p.
-abbrev pub writing : Pasts → ℕ → Put → Pasts
-writing P i p (of_session j) q = P (of_session j) q ⊎ ((j ≡ i) × (q ≡ p))
-writing P i p (of_put r) q = P (of_put r) q ⊎ ((r ≡ p) × P (of_session i) q)
+abbrev pub pasts_with_put : Pasts → ℕ → Put → Pasts
+pasts_with_put P i p (of_session j) q = P (of_session j) q ⊎ ((j ≡ i) × (q ≡ p))
+pasts_with_put P i p (of_put r) q = P (of_put r) q ⊎ ((r ≡ p) × P (of_session i) q)
 
 -- Session i was shown p: p and its past stand in its past from now on.
-abbrev pub seeing : Pasts → ℕ → Put → Pasts
-seeing P i p (of_session j) q = P (of_session j) q ⊎ ((j ≡ i) × ((q ≡ p) ⊎ P (of_put p) q))
-seeing P i p (of_put r) q = P (of_put r) q
+abbrev pub pasts_with_shown : Pasts → ℕ → Put → Pasts
+pasts_with_shown P i p (of_session j) q = P (of_session j) q ⊎ ((j ≡ i) × ((q ≡ p) ⊎ P (of_put p) q))
+pasts_with_shown P i p (of_put r) q = P (of_put r) q
 
 -- the same with what is shown of a key; none has no past
-abbrev pub seeing_shown : Pasts → ℕ → ℕ → Option Shown → Pasts
-seeing_shown P i key None = P
-seeing_shown P i key (Some v) = seeing P i (put_shown key v)
+abbrev pub pasts_with_answer : Pasts → ℕ → ℕ → Option Shown → Pasts
+pasts_with_answer P i key None = P
+pasts_with_answer P i key (Some v) = pasts_with_shown P i (put_shown key v)
 
 abbrev pub Past : History → Pasts
 Past [] w p = ⊥
-Past (wrote i key kind amount stamp ∷ h) w p = writing (Past h) i (record { key = key; stamp = stamp; source = site_of h i }) w p
-Past (got i key v ∷ h) w p = seeing_shown (Past h) i key v w p
-Past (read_by ticket key v ∷ h) w p = seeing_shown (Past h) (reader_of h ticket.serial) key v w p
+Past (wrote i key kind amount stamp ∷ h) w p = pasts_with_put (Past h) i (record { key = key; stamp = stamp; source = site_of h i }) w p
+Past (got i key v ∷ h) w p = pasts_with_answer (Past h) i key v w p
+Past (read_by ticket key v ∷ h) w p = pasts_with_answer (Past h) (reader_of h ticket.serial) key v w p
 Past (other ∷ h) w p = Past h w p

@@ -1,35 +1,35 @@
 -- The promises, for every store and every run of it.
 use Rattle.std.specs.Prelude.{◌≡◌, ℕ, ◌<◌, Bool, true, ◌⊎◌, List, [], ◌∷◌, Some, None, Ok, Option, Result, ◌≢◌}
 use Rattle.stamps.specs.declared.refusal.Refusal.{Refusal}
-use Rattle.servers.specs.Laws.{In, IsLatest}
+use Rattle.servers.specs.Laws.{IsIn, IsLatest}
 use Rattle.servers.specs.Values.{value_from}
 use Rattle.servers.specs.declared.value.Value.{Value}
 use Rattle.servers.specs.declared.version.Version.{Version}
-use Rattle.group.specs.Model.Events.{Put, AsLate, Later, Shown, put_shown, Ticket, Call, put, get, open_snapshot, read, session_opened, wrote, snapshot_opened, read_by, snapshot_closed, History}
+use Rattle.group.specs.Model.Events.{Put, IsAsLate, IsLater, Shown, put_shown, Ticket, Call, put, get, open_snapshot, read, session_opened, wrote, snapshot_opened, read_by, snapshot_closed, History}
 use Rattle.group.specs.Model.Pasts.{site_of, of_session, of_put, Past}
 use Rattle.group.specs.Model.Stores.{Store, Run, answer, then, then_all, history}
 
 -- What is shown of a key is put p or a later one; none is older than every put, and so is a refusal.
 abbrev pub ShowsAsLate : ℕ → Result (Option Shown) Refusal → Put → Type 0
-ShowsAsLate key (Ok (Some v)) p = AsLate (put_shown key v) p
+ShowsAsLate key (Ok (Some v)) p = IsAsLate (put_shown key v) p
 ShowsAsLate key other p = ⊥
 
 -- Two answers to a read that are the same, and no refusal.
-abbrev pub SameAnswer : Result (Option Shown) Refusal → Result (Option Shown) Refusal → Type 0
-SameAnswer a b = (o : Option Shown) × (a ≡ Ok o) × (b ≡ Ok o)
+abbrev pub IsSameAnswer : Result (Option Shown) Refusal → Result (Option Shown) Refusal → Type 0
+IsSameAnswer a b = (o : Option Shown) × (a ≡ Ok o) × (b ≡ Ok o)
 
 -- A session was opened.
-abbrev pub Opened : ℕ → History → Type 0
-Opened session [] = ⊥
-Opened session (session_opened i site ∷ h) = (session ≡ i) ⊎ Opened session h
-Opened session (other ∷ h) = Opened session h
+abbrev pub WasOpened : ℕ → History → Type 0
+WasOpened session [] = ⊥
+WasOpened session (session_opened i site ∷ h) = (session ≡ i) ⊎ WasOpened session h
+WasOpened session (other ∷ h) = WasOpened session h
 
 -- A snapshot was opened, and not closed since.
-abbrev pub Open : Ticket → History → Type 0
-Open ticket [] = ⊥
-Open ticket (snapshot_opened i opened ∷ h) = (ticket ≡ opened) ⊎ Open ticket h
-Open ticket (snapshot_closed closed ∷ h) = (ticket ≢ closed) × Open ticket h
-Open ticket (other ∷ h) = Open ticket h
+abbrev pub IsOpen : Ticket → History → Type 0
+IsOpen ticket [] = ⊥
+IsOpen ticket (snapshot_opened i opened ∷ h) = (ticket ≡ opened) ⊎ IsOpen ticket h
+IsOpen ticket (snapshot_closed closed ∷ h) = (ticket ≢ closed) × IsOpen ticket h
+IsOpen ticket (other ∷ h) = IsOpen ticket h
 
 -- The history has a done put of this name and this value. Its source is the site of its session then.
 abbrev pub WasPut : History → Put → Value → Type 0
@@ -46,7 +46,7 @@ module _ (S : Store) where
   -- What holds after a run.
   pub record Promises (r : Run S) : Type 0 where
     -- (a) a put is later than each put of its key in its past
-    pub put_later : (p q : Put) → Past (history S r) (of_put p) q → q.key ≡ p.key → Later p q
+    pub put_later : (p q : Put) → Past (history S r) (of_put p) q → q.key ≡ p.key → IsLater p q
     -- for each put in a session's past, a get of that key would now show the session this put or a later one
     pub get_shows_past : (session : ℕ) (p : Put) → Past (history S r) (of_session session) p → ShowsAsLate p.key (answer S r (get session p.key)) p
     -- (b) an open snapshot would now answer a read of each key as right after its opening, and does not refuse it
@@ -54,10 +54,10 @@ module _ (S : Store) where
         (calls : List Call) →
         let opened = then S r (open_snapshot session partition) in
         let now = then_all S opened calls in
-        Open ticket (history S now) → (key : ℕ) → SameAnswer (answer S now (read ticket key)) (answer S opened (read ticket key))
+        IsOpen ticket (history S now) → (key : ℕ) → IsSameAnswer (answer S now (read ticket key)) (answer S opened (read ticket key))
     -- of one snapshot's answers, not one is older than a put of its key in the past of any of them
     pub snapshot_whole : (ticket : Ticket) (key other : ℕ) (o : Option Shown) (v : Shown) (p : Put) →
-        In (read_by ticket key o) (history S r) → In (read_by ticket other (Some v)) (history S r) →
+        IsIn (read_by ticket key o) (history S r) → IsIn (read_by ticket other (Some v)) (history S r) →
         Past (history S r) (of_put (put_shown other v)) p → p.key ≡ key → ShowsAsLate key (Ok o) p
     -- (c) with every outbox empty, any two sites hold the same latest version of each key, or neither holds one
     pub sites_agree : S.Quiet r.state → (site other key : ℕ) → site < S.sites → other < S.sites → (v w : Option Version) →
@@ -72,11 +72,11 @@ module _ (S : Store) where
         WasPut (history S r) (put_shown key v) v.value
     -- A get of a session that was opened is answered: none exactly when the site holds no version of that key that the
     -- session may see.
-    pub get_answers : (session key : ℕ) → Opened session (history S r) → (o : Option Shown) × (answer S r (get session key) ≡ Ok o)
+    pub get_answers : (session key : ℕ) → WasOpened session (history S r) → (o : Option Shown) × (answer S r (get session key) ≡ Ok o)
     pub get_none : (session key : ℕ) → answer S r (get session key) ≡ Ok None →
-        (v : Version) → In v (S.holds r.state (site_of (history S r) session)) → v.key ≡ key → S.may_see r.state session v ≢ true
+        (v : Version) → IsIn v (S.holds r.state (site_of (history S r) session)) → v.key ≡ key → S.may_see r.state session v ≢ true
     pub get_some : (session key : ℕ) (v : Shown) → answer S r (get session key) ≡ Ok (Some v) →
-        (w : Version) × In w (S.holds r.state (site_of (history S r) session)) × (w.key ≡ key) × (S.may_see r.state session w ≡ true)
+        (w : Version) × IsIn w (S.holds r.state (site_of (history S r) session)) × (w.key ≡ key) × (S.may_see r.state session w ≡ true)
     -- the capacities and ranges hold
     pub bounded : S.Bounded r.state
 

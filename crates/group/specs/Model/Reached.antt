@@ -3,23 +3,23 @@ use Rattle.std.specs.Prelude.{◌≡◌, ℕ, List, []}
 use Rattle.stamps.specs.Kinds.{Kind}
 use Rattle.servers.specs.Servers.{Rule}
 use Rattle.group.specs.Model.Events.{Call}
-use Rattle.group.specs.Model.Groups.{GroupState, made}
-use Rattle.group.specs.Model.GroupStore.{LayoutBounded, group_store}
+use Rattle.group.specs.Model.Groups.{GroupState, new_group}
+use Rattle.group.specs.Model.GroupStore.{IsLayoutBounded, group_store}
 use Rattle.group.specs.Model.Promises.{Promises}
 use Rattle.group.specs.Model.Stores.{Run, then_all}
 
 -- the run of these calls, from the making of a group of so many sites and partitions
 abbrev pub run_of : (rule : Rule) (kind : Kind) (sites partitions : ℕ) → List Call → Run (group_store rule kind sites)
-run_of rule kind sites partitions calls = then_all (group_store rule kind sites) (record { events = []; state = made sites partitions }) calls
+run_of rule kind sites partitions calls = then_all (group_store rule kind sites) (record { events = []; state = new_group sites partitions }) calls
 
 -- Calls lead to this group from the making of one.
-pub record Reached (rule : Rule) (kind : Kind) (g : GroupState) : Type 0 where
-  pub layout : LayoutBounded g.sites g.partitions
+pub record IsReached (rule : Rule) (kind : Kind) (g : GroupState) : Type 0 where
+  pub layout : IsLayoutBounded g.sites g.partitions
   pub calls : List Call
   pub leads : (run_of rule kind g.sites g.partitions calls).state ≡ g
 
 -- Calls lead to this group, and the promises hold after them and after any calls that follow.
-pub record Kept (rule : Rule) (kind : Kind) (g : GroupState) : Type 0 where
+pub record StillKeeps (rule : Rule) (kind : Kind) (g : GroupState) : Type 0 where
   pub calls : List Call
   pub leads : (run_of rule kind g.sites g.partitions calls).state ≡ g
   pub promises : (more : List Call) →

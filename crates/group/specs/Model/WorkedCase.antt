@@ -7,7 +7,7 @@ use Rattle.stamps.specs.BuiltKinds.{each_kind}
 use Rattle.servers.specs.declared.value.Value.TheVariants.{Percent, Basis as BasisOf}
 use Rattle.servers.specs.declared.value.Basis.TheVariants.{Sheet}
 use Rattle.group.specs.Model.Events.{Event, Call, open_session, tell, put, get, heartbeat, deliver, report, stabilise}
-use Rattle.group.specs.Model.Groups.{made}
+use Rattle.group.specs.Model.Groups.{new_group}
 use Rattle.group.specs.Model.GroupStore.{group_store}
 use Rattle.group.specs.Model.Stores.{then_all}
 
@@ -42,4 +42,4 @@ call_of e = e.call
 -- A group of two sites and two partitions, with the hybrid clock and a stamp for each site, answers these calls so.
 abbrev pub WorkedCase : Type 0
 WorkedCase =
-    reverse (then_all (group_store hybrid each_kind 2) (record { events = []; state = made 2 2 }) (map call_of worked_events)).events ≡ worked_events
+    reverse (then_all (group_store hybrid each_kind 2) (record { events = []; state = new_group 2 2 }) (map call_of worked_events)).events ≡ worked_events

@@ -1,12 +1,12 @@
 // The calls on a group.
 ghost use Rattle.std.specs.Prelude.{◌≡◌};
 ghost use Rattle.stamps.specs.Refusals.{RefusalKeeps};
-ghost use Rattle.group.specs.Model.Calls.{asked};
+ghost use Rattle.group.specs.Model.Calls.{step};
 ghost use Rattle.group.specs.Model.Events.{open_session, tell as Tell, put as Put, get as Get, heartbeat as Heartbeat, deliver as Deliver, report as Report, stabilise as Stabilise, open_snapshot, read as Read, close as Close, tidy as Tidy, lead as Lead};
-ghost use Rattle.group.specs.Model.Groups.{made};
+ghost use Rattle.group.specs.Model.Groups.{new_group};
 ghost use Rattle.group.specs.Model.GroupStore.{group_store};
 ghost use Rattle.group.specs.Model.Promises.{KeepsPromises};
-ghost use Rattle.group.specs.Model.Reached.{Kept};
+ghost use Rattle.group.specs.Model.Reached.{StillKeeps};
 ghost use Rattle.group.specs.Groups.{view};
 
 use super::Group;
@@ -23,7 +23,7 @@ impl<C: ClockRule, K: MarkKind> Group<C, K> {
     // A group with nothing in it. It takes a checked layout, so it cannot be refused. From here on it keeps the promises,
     // whatever calls are made.
     pub fn new(layout: Layout) -> Self
-        ensures state { view result ≡ made layout.sites layout.partitions }
+        ensures state { view result ≡ new_group layout.sites layout.partitions }
         ensures promises { KeepsPromises (group_store C.ClockRule.answer K.MarkKind.kind layout.sites) (view result) }
     {
         Group {
@@ -33,14 +33,14 @@ impl<C: ClockRule, K: MarkKind> Group<C, K> {
 
     // Does nothing. Its contract is the theorem: any group keeps the promises.
     pub fn promises(&self)
-        ensures { ∥ Kept C.ClockRule.answer K.MarkKind.kind (view self.now) ∥₁ }
+        ensures { ∥ StillKeeps C.ClockRule.answer K.MarkKind.kind (view self.now) ∥₁ }
     {
         let _ = &self.parts;
     }
 
     // A new session at a site. Its number is how many were opened before it.
     pub fn open_session(&mut self, site: u8) -> Result<u8, Refusal>
-        ensures step { (result, view self.new) ≡ asked C.ClockRule.answer K.MarkKind.kind (view self.old) (open_session site) }
+        ensures step { (result, view self.new) ≡ step C.ClockRule.answer K.MarkKind.kind (view self.old) (open_session site) }
         ensures keeps { RefusalKeeps result (view self.old) (view self.new) }
     {
         self.parts.open_session(site)
@@ -48,7 +48,7 @@ impl<C: ClockRule, K: MarkKind> Group<C, K> {
 
     // The physical clock of a server shows a new time.
     pub fn tell(&mut self, site: u8, partition: u8, time: u64) -> Result<(), Refusal>
-        ensures step { (result, view self.new) ≡ asked C.ClockRule.answer K.MarkKind.kind (view self.old) (Tell site partition time) }
+        ensures step { (result, view self.new) ≡ step C.ClockRule.answer K.MarkKind.kind (view self.old) (Tell site partition time) }
         ensures keeps { RefusalKeeps result (view self.old) (view self.new) }
     {
         self.parts.tell(site, partition, time)
@@ -57,7 +57,7 @@ impl<C: ClockRule, K: MarkKind> Group<C, K> {
     // A new version of a key, made at the session's server. Its value comes as numbers, since they are judged after the
     // session.
     pub fn put(&mut self, session: u8, key: u16, kind: u8, amount: u32) -> Result<Stamp, Refusal>
-        ensures step { (result, view self.new) ≡ asked C.ClockRule.answer K.MarkKind.kind (view self.old) (Put session key kind amount) }
+        ensures step { (result, view self.new) ≡ step C.ClockRule.answer K.MarkKind.kind (view self.old) (Put session key kind amount) }
         ensures keeps { RefusalKeeps result (view self.old) (view self.new) }
     {
         self.parts.put(session, key, kind, amount)
@@ -65,7 +65,7 @@ impl<C: ClockRule, K: MarkKind> Group<C, K> {
 
     // The latest version of a key that the session's server shows, or none.
     pub fn get(&mut self, session: u8, key: u16) -> Result<Option<Shown>, Refusal>
-        ensures step { (result, view self.new) ≡ asked C.ClockRule.answer K.MarkKind.kind (view self.old) (Get session key) }
+        ensures step { (result, view self.new) ≡ step C.ClockRule.answer K.MarkKind.kind (view self.old) (Get session key) }
         ensures keeps { RefusalKeeps result (view self.old) (view self.new) }
     {
         self.parts.get(session, key)
@@ -73,7 +73,7 @@ impl<C: ClockRule, K: MarkKind> Group<C, K> {
 
     // A new stamp of a server for the other sites.
     pub fn heartbeat(&mut self, site: u8, partition: u8) -> Result<Stamp, Refusal>
-        ensures step { (result, view self.new) ≡ asked C.ClockRule.answer K.MarkKind.kind (view self.old) (Heartbeat site partition) }
+        ensures step { (result, view self.new) ≡ step C.ClockRule.answer K.MarkKind.kind (view self.old) (Heartbeat site partition) }
         ensures keeps { RefusalKeeps result (view self.old) (view self.new) }
     {
         self.parts.heartbeat(site, partition)
@@ -81,7 +81,7 @@ impl<C: ClockRule, K: MarkKind> Group<C, K> {
 
     // A site takes the next entry that waits for it at another site's server.
     pub fn deliver(&mut self, from: u8, to: u8, partition: u8) -> Result<(), Refusal>
-        ensures step { (result, view self.new) ≡ asked C.ClockRule.answer K.MarkKind.kind (view self.old) (Deliver from to partition) }
+        ensures step { (result, view self.new) ≡ step C.ClockRule.answer K.MarkKind.kind (view self.old) (Deliver from to partition) }
         ensures keeps { RefusalKeeps result (view self.old) (view self.new) }
     {
         self.parts.deliver(from, to, partition)
@@ -89,7 +89,7 @@ impl<C: ClockRule, K: MarkKind> Group<C, K> {
 
     // A server tells its site how far it has received.
     pub fn report(&mut self, site: u8, partition: u8) -> Result<(), Refusal>
-        ensures step { (result, view self.new) ≡ asked C.ClockRule.answer K.MarkKind.kind (view self.old) (Report site partition) }
+        ensures step { (result, view self.new) ≡ step C.ClockRule.answer K.MarkKind.kind (view self.old) (Report site partition) }
         ensures keeps { RefusalKeeps result (view self.old) (view self.new) }
     {
         self.parts.report(site, partition)
@@ -97,7 +97,7 @@ impl<C: ClockRule, K: MarkKind> Group<C, K> {
 
     // What every server of a site has reported is joined into the stable mark of one of them.
     pub fn stabilise(&mut self, site: u8, partition: u8) -> Result<(), Refusal>
-        ensures step { (result, view self.new) ≡ asked C.ClockRule.answer K.MarkKind.kind (view self.old) (Stabilise site partition) }
+        ensures step { (result, view self.new) ≡ step C.ClockRule.answer K.MarkKind.kind (view self.old) (Stabilise site partition) }
         ensures keeps { RefusalKeeps result (view self.old) (view self.new) }
     {
         self.parts.stabilise(site, partition)
@@ -105,7 +105,7 @@ impl<C: ClockRule, K: MarkKind> Group<C, K> {
 
     // A fixed view of the session's site, as far as one of its servers and the session know it to be stable.
     pub fn open_snapshot(&mut self, session: u8, partition: u8) -> Result<Ticket, Refusal>
-        ensures step { (result, view self.new) ≡ asked C.ClockRule.answer K.MarkKind.kind (view self.old) (open_snapshot session partition) }
+        ensures step { (result, view self.new) ≡ step C.ClockRule.answer K.MarkKind.kind (view self.old) (open_snapshot session partition) }
         ensures keeps { RefusalKeeps result (view self.old) (view self.new) }
     {
         self.parts.open_snapshot(session, partition)
@@ -113,7 +113,7 @@ impl<C: ClockRule, K: MarkKind> Group<C, K> {
 
     // The latest version of a key that the snapshot's cut covers, or none.
     pub fn read(&mut self, ticket: &Ticket, key: u16) -> Result<Option<Shown>, Refusal>
-        ensures step { (result, view self.new) ≡ asked C.ClockRule.answer K.MarkKind.kind (view self.old) (Read ticket.now key) }
+        ensures step { (result, view self.new) ≡ step C.ClockRule.answer K.MarkKind.kind (view self.old) (Read ticket.now key) }
         ensures keeps { RefusalKeeps result (view self.old) (view self.new) }
     {
         self.parts.read(ticket, key)
@@ -121,7 +121,7 @@ impl<C: ClockRule, K: MarkKind> Group<C, K> {
 
     // The end of a snapshot. The ticket is taken in either case, done or refused.
     pub fn close(&mut self, ticket: Ticket) -> Result<(), Refusal>
-        ensures step { (result, view self.new) ≡ asked C.ClockRule.answer K.MarkKind.kind (view self.old) (Close ticket) }
+        ensures step { (result, view self.new) ≡ step C.ClockRule.answer K.MarkKind.kind (view self.old) (Close ticket) }
         ensures keeps { RefusalKeeps result (view self.old) (view self.new) }
     {
         self.parts.close(ticket)
@@ -129,7 +129,7 @@ impl<C: ClockRule, K: MarkKind> Group<C, K> {
 
     // A server drops the versions that no snapshot of the site, open or yet to be opened, can need. Answers how many.
     pub fn tidy(&mut self, site: u8, partition: u8) -> Result<usize, Refusal>
-        ensures step { (result, view self.new) ≡ asked C.ClockRule.answer K.MarkKind.kind (view self.old) (Tidy site partition) }
+        ensures step { (result, view self.new) ≡ step C.ClockRule.answer K.MarkKind.kind (view self.old) (Tidy site partition) }
         ensures keeps { RefusalKeeps result (view self.old) (view self.new) }
     {
         self.parts.tidy(site, partition)
@@ -137,7 +137,7 @@ impl<C: ClockRule, K: MarkKind> Group<C, K> {
 
     // How far a server's last stamp is ahead of its reading.
     pub fn lead(&self, site: u8, partition: u8) -> Result<i64, Refusal>
-        ensures { (result, view self.now) ≡ asked C.ClockRule.answer K.MarkKind.kind (view self.now) (Lead site partition) }
+        ensures { (result, view self.now) ≡ step C.ClockRule.answer K.MarkKind.kind (view self.now) (Lead site partition) }
     {
         self.parts.lead(site, partition)
     }

@@ -2,7 +2,7 @@
 ghost use Rattle.std.specs.Prelude.{◌≡◌, Ok as Lawful};
 ghost use Rattle.stamps.specs.Refusals.{RefusalKeeps};
 ghost use Rattle.group.specs.Model.Groups.{session_at};
-ghost use Rattle.group.specs.Model.Calls.{asked, put_worth};
+ghost use Rattle.group.specs.Model.Calls.{step, put_value};
 ghost use Rattle.group.specs.Model.Events.{put as Put, get as Get};
 ghost use Rattle.group.specs.Parts.{view};
 
@@ -26,7 +26,7 @@ impl<C: ClockRule, K: MarkKind> GroupParts<C, K> {
         kind: u8,
         amount: u32,
     ) -> Result<Stamp, Refusal>
-        ensures step { (result, view self.new) ≡ asked C.ClockRule.answer K.MarkKind.kind (view self.old) (Put session key kind amount) }
+        ensures step { (result, view self.new) ≡ step C.ClockRule.answer K.MarkKind.kind (view self.old) (Put session key kind amount) }
         ensures keeps { RefusalKeeps result (view self.old) (view self.new) }
     {
         if !self.has_session(session) {
@@ -38,7 +38,7 @@ impl<C: ClockRule, K: MarkKind> GroupParts<C, K> {
 
     // A put of a lawful value by a session that was opened. The session depends from then on on the new version.
     fn put_value(&mut self, number: u8, key: u16, value: Value) -> Result<Stamp, Refusal>
-        ensures step { (result, view self.new) ≡ put_worth C.ClockRule.answer K.MarkKind.kind (view self.old) number key (session_at (view self.old) number) (Lawful value) }
+        ensures step { (result, view self.new) ≡ put_value C.ClockRule.answer K.MarkKind.kind (view self.old) number key (session_at (view self.old) number) (Lawful value) }
         ensures keeps { RefusalKeeps result (view self.old) (view self.new) }
     {
         let session = self.session_at(number);
@@ -56,7 +56,7 @@ impl<C: ClockRule, K: MarkKind> GroupParts<C, K> {
 
     // The latest version of a key that the session's server shows, or none.
     pub(crate) fn get(&mut self, session: u8, key: u16) -> Result<Option<Shown>, Refusal>
-        ensures step { (result, view self.new) ≡ asked C.ClockRule.answer K.MarkKind.kind (view self.old) (Get session key) }
+        ensures step { (result, view self.new) ≡ step C.ClockRule.answer K.MarkKind.kind (view self.old) (Get session key) }
         ensures keeps { RefusalKeeps result (view self.old) (view self.new) }
     {
         if !self.has_session(session) {

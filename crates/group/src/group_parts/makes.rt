@@ -1,9 +1,9 @@
 // The making of a group.
 ghost use Rattle.std.specs.Prelude.{◌≡◌, ◌<◌};
-ghost use Rattle.group.specs.Model.Groups.{made};
+ghost use Rattle.group.specs.Model.Groups.{new_group};
 ghost use Rattle.group.specs.Model.GroupStore.{group_store};
 ghost use Rattle.group.specs.Model.Promises.{KeepsPromises};
-ghost use Rattle.servers.specs.Servers.{fresh, view as server_view};
+ghost use Rattle.servers.specs.Servers.{new_server, view as server_view};
 ghost use Rattle.group.specs.Parts.{view};
 
 use super::GroupParts;
@@ -21,7 +21,7 @@ impl<C: ClockRule, K: MarkKind> GroupParts<C, K> {
     // A group with nothing in it. It takes a checked layout, so it cannot be refused. From here on it keeps the promises,
     // whatever calls are made.
     pub(crate) fn new(layout: Layout) -> Self
-        ensures state { view result ≡ made layout.sites layout.partitions }
+        ensures state { view result ≡ new_group layout.sites layout.partitions }
         ensures promises { KeepsPromises (group_store C.ClockRule.answer K.MarkKind.kind layout.sites) (view result) }
     {
         let sites = layout.sites();
@@ -56,7 +56,7 @@ impl<C: ClockRule, K: MarkKind> GroupParts<C, K> {
 // The server of a site as it is made.
 fn made_at<C: ClockRule, K: MarkKind>(number: u8, sites: SiteCount) -> Server<C, K>
     requires { number < 4 }
-    ensures { server_view result ≡ fresh number sites }
+    ensures { server_view result ≡ new_server number sites }
 {
     Server::new(site_of(number), sites)
 }

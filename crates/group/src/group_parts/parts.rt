@@ -1,9 +1,9 @@
 // One server or one session of a group, looked at or changed.
 ghost use Rattle.std.specs.Prelude.{◌≡◌, length, Ok as Done, nat_lt};
-ghost use Rattle.servers.specs.Servers.{view as server_view, handing, putting, taking, raised, tidied_up};
+ghost use Rattle.servers.specs.Servers.{view as server_view, server_hand_over, server_put, server_take, server_raise, server_tidy};
 ghost use Rattle.group.specs.Model.Groups.{with_session, session_at};
-ghost use Rattle.group.specs.Model.Calls.{learning, counted, depending_on, showing};
-ghost use Rattle.group.specs.Parts.{view, server_at, with_server_at, called_at};
+ghost use Rattle.group.specs.Model.Calls.{learn, with_ok, depend, show};
+ghost use Rattle.group.specs.Parts.{view, server_at, with_server_at, call_server_at};
 
 use super::GroupParts;
 use crate::partition::Partition;
@@ -30,14 +30,14 @@ impl<C: ClockRule, K: MarkKind> GroupParts<C, K> {
 
     // A mark is joined into a server's stable mark.
     pub(crate) fn raise(&mut self, place: Place, mark: K::Mark)
-        ensures { view self.new ≡ with_server_at (view self.old) place (raised K.MarkKind.kind (server_at (view self.old) place) (K.MarkKind.meaning mark)) }
+        ensures { view self.new ≡ with_server_at (view self.old) place (server_raise K.MarkKind.kind (server_at (view self.old) place) (K.MarkKind.meaning mark)) }
     {
         self.servers[place.index()].raise(mark);
     }
 
     // A server takes an entry of another site's server.
     pub(crate) fn take(&mut self, place: Place, from: Site, entry: Entry) -> Result<(), Refusal>
-        ensures { (result, view self.new) ≡ called_at (view self.old) place (λ s. taking s from entry) }
+        ensures { (result, view self.new) ≡ call_server_at (view self.old) place (λ s. server_take s from entry) }
     {
         self.servers[place.index()].take(from, entry)
     }
@@ -51,21 +51,21 @@ impl<C: ClockRule, K: MarkKind> GroupParts<C, K> {
         depends: K::Mark,
         knows: K::Mark,
     ) -> Result<Stamp, Refusal>
-        ensures { (result, view self.new) ≡ called_at (view self.old) place (λ s. putting C.ClockRule.answer K.MarkKind.kind s key value (K.MarkKind.meaning depends) (K.MarkKind.meaning knows)) }
+        ensures { (result, view self.new) ≡ call_server_at (view self.old) place (λ s. server_put C.ClockRule.answer K.MarkKind.kind s key value (K.MarkKind.meaning depends) (K.MarkKind.meaning knows)) }
     {
         self.servers[place.index()].put(key, value, depends, knows)
     }
 
     // A server drops what is not needed any more under the safe mark.
     pub(crate) fn drop_outdated(&mut self, place: Place, safe: K::Mark) -> usize
-        ensures { (Done result, view self.new) ≡ called_at (view self.old) place (λ s. counted (tidied_up K.MarkKind.kind s (K.MarkKind.meaning safe))) }
+        ensures { (Done result, view self.new) ≡ call_server_at (view self.old) place (λ s. with_ok (server_tidy K.MarkKind.kind s (K.MarkKind.meaning safe))) }
     {
         self.servers[place.index()].tidy(safe)
     }
 
     // A site has taken the next entry of a server's outbox.
     pub(crate) fn hand_over(&mut self, place: Place, to: Site)
-        ensures { view self.new ≡ with_server_at (view self.old) place (handing (server_at (view self.old) place) to) }
+        ensures { view self.new ≡ with_server_at (view self.old) place (server_hand_over (server_at (view self.old) place) to) }
     {
         self.servers[place.index()].hand_over(to);
     }
@@ -99,7 +99,7 @@ impl<C: ClockRule, K: MarkKind> GroupParts<C, K> {
     // the server stands.
     pub(crate) fn learn(&mut self, number: u8, partition: Partition) -> Place
         ensures place { result ≡ ((session_at (view self.old) number).site, partition) }
-        ensures state { view self.new ≡ learning K.MarkKind.kind (view self.old) number (session_at (view self.old) number) partition }
+        ensures state { view self.new ≡ learn K.MarkKind.kind (view self.old) number (session_at (view self.old) number) partition }
     {
         let session = self.session_at(number);
         let place = Place {
@@ -114,7 +114,7 @@ impl<C: ClockRule, K: MarkKind> GroupParts<C, K> {
 
     // A session depends from then on on a version too.
     pub(crate) fn depend(&mut self, number: u8, version: &Version)
-        ensures { view self.new ≡ depending_on K.MarkKind.kind (view self.old) number version.now }
+        ensures { view self.new ≡ depend K.MarkKind.kind (view self.old) number version.now }
     {
         let session = self.session_at(number);
         let depends = K::row(K::join(K::floor(session.depends), version.full_mark::<K>()));
@@ -123,7 +123,7 @@ impl<C: ClockRule, K: MarkKind> GroupParts<C, K> {
 
     // What is shown of the version that was found, if one was. The session depends on it from then on.
     pub(crate) fn show(&mut self, session: u8, found: Option<Version>) -> Option<Shown>
-        ensures { (Done result, view self.new) ≡ showing K.MarkKind.kind (view self.old) session found }
+        ensures { (Done result, view self.new) ≡ show K.MarkKind.kind (view self.old) session found }
     {
         let version = found?;
         self.depend(session, &version);

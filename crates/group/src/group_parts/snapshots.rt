@@ -2,7 +2,7 @@
 ghost use Rattle.std.specs.Prelude.{◌≡◌, suc, ◌+◌, ◌-◌, ◌^◌, ◌<◌, Some as Taken};
 ghost use Rattle.stamps.specs.Refusals.{RefusalKeeps};
 ghost use Rattle.group.specs.Model.Groups.{seat_at, with_seat};
-ghost use Rattle.group.specs.Model.Calls.{asked};
+ghost use Rattle.group.specs.Model.Calls.{step};
 ghost use Rattle.group.specs.Model.Events.{open_snapshot, read as Read, close as Close};
 ghost use Rattle.group.specs.Parts.{view};
 ghost use Rattle.group.specs.Sessions.{open_at};
@@ -20,7 +20,7 @@ use stamps::row::Row;
 impl<C: ClockRule, K: MarkKind> GroupParts<C, K> {
     // A fixed view of the session's site, as far as one of its servers and the session know it to be stable.
     pub(crate) fn open_snapshot(&mut self, session: u8, partition: u8) -> Result<Ticket, Refusal>
-        ensures step { (result, view self.new) ≡ asked C.ClockRule.answer K.MarkKind.kind (view self.old) (open_snapshot session partition) }
+        ensures step { (result, view self.new) ≡ step C.ClockRule.answer K.MarkKind.kind (view self.old) (open_snapshot session partition) }
         ensures keeps { RefusalKeeps result (view self.old) (view self.new) }
     {
         let partition = self.layout.partition(partition)?;
@@ -70,7 +70,7 @@ impl<C: ClockRule, K: MarkKind> GroupParts<C, K> {
 
     // The latest version of a key that the snapshot's cut covers, or none.
     pub(crate) fn read(&mut self, ticket: &Ticket, key: u16) -> Result<Option<Shown>, Refusal>
-        ensures step { (result, view self.new) ≡ asked C.ClockRule.answer K.MarkKind.kind (view self.old) (Read ticket.now key) }
+        ensures step { (result, view self.new) ≡ step C.ClockRule.answer K.MarkKind.kind (view self.old) (Read ticket.now key) }
         ensures keeps { RefusalKeeps result (view self.old) (view self.new) }
     {
         let seat = self.open_seat(ticket)?;
@@ -86,7 +86,7 @@ impl<C: ClockRule, K: MarkKind> GroupParts<C, K> {
 
     // The end of a snapshot. The ticket is taken in either case, done or refused.
     pub(crate) fn close(&mut self, ticket: Ticket) -> Result<(), Refusal>
-        ensures step { (result, view self.new) ≡ asked C.ClockRule.answer K.MarkKind.kind (view self.old) (Close ticket) }
+        ensures step { (result, view self.new) ≡ step C.ClockRule.answer K.MarkKind.kind (view self.old) (Close ticket) }
         ensures keeps { RefusalKeeps result (view self.old) (view self.new) }
     {
         // The ticket is taken apart before a refusal is answered, since it cannot be let go.

@@ -1,8 +1,8 @@
 // The methods of `Outbox`.
 ghost use Rattle.std.specs.Prelude.{◌≡◌};
-ghost use Rattle.servers.specs.Laws.{QueueLaw};
+ghost use Rattle.servers.specs.Laws.{StaysQueue};
 ghost use Rattle.servers.specs.Others.{is_other};
-ghost use Rattle.servers.specs.Outboxes.{waiting, none_waiting, outbox_full, issued, next_for, taken_by, issued_if_room};
+ghost use Rattle.servers.specs.Outboxes.{queues_of, empty_queues, is_outbox_full, issue_entry, next_for, take_entry, issued_if_room};
 
 use super::Outbox;
 use crate::counts::Counts;
@@ -14,8 +14,8 @@ use stamps::stamp::Stamp;
 
 impl Outbox {
     pub(crate) fn new(peers: Peers) -> Outbox
-        ensures empty { waiting result ≡ none_waiting }
-        ensures law { QueueLaw peers.own peers.sites }
+        ensures empty { queues_of result ≡ empty_queues }
+        ensures law { StaysQueue peers.own peers.sites }
         ensures peers { result.peers ≡ peers }
     {
         Outbox {
@@ -41,14 +41,14 @@ impl Outbox {
 
     // Whether some other site has as many entries still to take as are kept for it.
     pub(crate) fn is_full(&self) -> bool
-        ensures { result ≡ outbox_full self.now.peers.own self.now.peers.sites (waiting self.now) }
+        ensures { result ≡ is_outbox_full self.now.peers.own self.now.peers.sites (queues_of self.now) }
     {
         self.entries.is_full()
     }
 
     // One entry more for every other site; a full outbox stays as it is.
     pub(crate) fn issue(&mut self, entry: Entry)
-        ensures queues { waiting self.new ≡ issued_if_room self.old.peers.own self.old.peers.sites (waiting self.old) entry }
+        ensures queues { queues_of self.new ≡ issued_if_room self.old.peers.own self.old.peers.sites (queues_of self.old) entry }
         ensures peers { self.new.peers ≡ self.old.peers }
     {
         if self.is_full() {
@@ -60,7 +60,7 @@ impl Outbox {
 
     // The next entry that a site has still to take.
     pub(crate) fn next_for(&self, site: Site) -> Option<Entry>
-        ensures { result ≡ next_for (waiting self.now) site }
+        ensures { result ≡ next_for (queues_of self.now) site }
     {
         let entries = self.entries.as_slice();
         let left = self.left.at(site) as usize;
@@ -72,7 +72,7 @@ impl Outbox {
 
     // A site takes its next entry, if there is one. What no site has still to take any more is gone.
     pub(crate) fn take(&mut self, site: Site)
-        ensures queues { waiting self.new ≡ taken_by (waiting self.old) site }
+        ensures queues { queues_of self.new ≡ take_entry (queues_of self.old) site }
         ensures peers { self.new.peers ≡ self.old.peers }
     {
         let left = self.left.one_less(site);

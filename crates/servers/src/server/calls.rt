@@ -1,9 +1,9 @@
 // A server's part of the calls that tell its clock, write, and send and take entries.
 ghost use Rattle.std.specs.Prelude.{◌≡◌, ◌==◌};
 ghost use Rattle.stamps.specs.Refusals.{RefusalKeeps};
-ghost use Rattle.servers.specs.Laws.{Above};
+ghost use Rattle.servers.specs.Laws.{IsAbove};
 ghost use Rattle.servers.specs.Outboxes.{next_for};
-ghost use Rattle.servers.specs.Servers.{view, last_of, telling, heartbeating, putting, handing, taking, taking_other, lead_of};
+ghost use Rattle.servers.specs.Servers.{view, last_of, server_tell, server_heartbeat, server_put, server_hand_over, server_take, server_take_other, lead_of};
 
 use super::Server;
 use crate::entry::Entry;
@@ -19,7 +19,7 @@ use stamps::stamp::Stamp;
 impl<C: ClockRule, K: MarkKind> Server<C, K> {
     // The physical clock shows a new time, which must not be behind the present one.
     pub fn tell(&mut self, time: u64) -> Result<(), Refusal>
-        ensures step { (result, view self.new) ≡ telling (view self.old) time }
+        ensures step { (result, view self.new) ≡ server_tell (view self.old) time }
         ensures keeps { RefusalKeeps result (view self.old) (view self.new) }
     {
         let reading = Reading::try_from(time)?;
@@ -32,8 +32,8 @@ impl<C: ClockRule, K: MarkKind> Server<C, K> {
 
     // A new stamp for the other sites, with nothing written.
     pub fn heartbeat(&mut self) -> Result<Stamp, Refusal>
-        ensures step { (result, view self.new) ≡ heartbeating C.ClockRule.answer (view self.old) }
-        ensures rises { Above (last_of (view self.old)) result }
+        ensures step { (result, view self.new) ≡ server_heartbeat C.ClockRule.answer (view self.old) }
+        ensures rises { IsAbove (last_of (view self.old)) result }
         ensures keeps { RefusalKeeps result (view self.old) (view self.new) }
     {
         if self.outbox.is_full() {
@@ -54,8 +54,8 @@ impl<C: ClockRule, K: MarkKind> Server<C, K> {
         depends: K::Mark,
         knows: K::Mark,
     ) -> Result<Stamp, Refusal>
-        ensures step { (result, view self.new) ≡ putting C.ClockRule.answer K.MarkKind.kind (view self.old) key value (K.MarkKind.meaning depends) (K.MarkKind.meaning knows) }
-        ensures rises { Above (last_of (view self.old)) result }
+        ensures step { (result, view self.new) ≡ server_put C.ClockRule.answer K.MarkKind.kind (view self.old) key value (K.MarkKind.meaning depends) (K.MarkKind.meaning knows) }
+        ensures rises { IsAbove (last_of (view self.old)) result }
         ensures keeps { RefusalKeeps result (view self.old) (view self.new) }
     {
         if self.table.is_full() {
@@ -84,7 +84,7 @@ impl<C: ClockRule, K: MarkKind> Server<C, K> {
     // The stamp that the rule gives after the last one and a dependency.
     fn next_stamp(&self, dependency: Stamp) -> Result<Stamp, Refusal>
         ensures value { result ≡ C.ClockRule.answer (last_of (view self.now)) self.now.reading dependency }
-        ensures rises { Above (last_of (view self.now)) result }
+        ensures rises { IsAbove (last_of (view self.now)) result }
     {
         C::stamp(
             self.received.at(self.outbox.own()),
@@ -102,14 +102,14 @@ impl<C: ClockRule, K: MarkKind> Server<C, K> {
 
     // A site has taken its next entry.
     pub fn hand_over(&mut self, site: Site)
-        ensures { view self.new ≡ handing (view self.old) site }
+        ensures { view self.new ≡ server_hand_over (view self.old) site }
     {
         self.outbox.take(site);
     }
 
     // Takes an entry of another site's server; one of any other origin is refused.
     pub fn take(&mut self, from: Site, entry: Entry) -> Result<(), Refusal>
-        ensures step { (result, view self.new) ≡ taking (view self.old) from entry }
+        ensures step { (result, view self.new) ≡ server_take (view self.old) from entry }
         ensures keeps { RefusalKeeps result (view self.old) (view self.new) }
     {
         if !self.outbox.has_other(from) {
@@ -120,7 +120,7 @@ impl<C: ClockRule, K: MarkKind> Server<C, K> {
 
     // Takes an entry of a server that stands at another site of the layout.
     fn take_other(&mut self, from: Site, entry: Entry) -> Result<(), Refusal>
-        ensures step { (result, view self.new) ≡ taking_other (view self.old) from entry }
+        ensures step { (result, view self.new) ≡ server_take_other (view self.old) from entry }
         ensures keeps { RefusalKeeps result (view self.old) (view self.new) }
     {
         if let Entry::Update(taken) = &entry {

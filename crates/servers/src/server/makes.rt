@@ -1,7 +1,7 @@
 // The making of a server.
 ghost use Rattle.std.specs.Prelude.{◌≡◌};
-ghost use Rattle.servers.specs.Laws.{QueueLaw, RisingLaw};
-ghost use Rattle.servers.specs.Servers.{view, fresh, first_received, first_entry};
+ghost use Rattle.servers.specs.Laws.{StaysQueue, StampsRise};
+ghost use Rattle.servers.specs.Servers.{view, new_server, first_received, first_entry};
 
 use super::Server;
 use crate::outbox::Outbox;
@@ -21,9 +21,9 @@ use std::marker::PhantomData;
 impl<C: ClockRule, K: MarkKind> Server<C, K> {
     // A server that holds nothing, and has received nothing from the sites of its layout.
     pub fn new(site: Site, sites: SiteCount) -> Self
-        ensures state { view result ≡ fresh site sites }
-        ensures queues { QueueLaw site sites }
-        ensures rising { RisingLaw C.ClockRule.answer K.MarkKind.kind site sites }
+        ensures state { view result ≡ new_server site sites }
+        ensures queues { StaysQueue site sites }
+        ensures rising { StampsRise C.ClockRule.answer K.MarkKind.kind site sites }
     {
         stamps_rise::<C, K>(site, sites);
         let zero = Row::same(Stamp::zero());
@@ -49,7 +49,7 @@ impl<C: ClockRule, K: MarkKind> Server<C, K> {
 
 // The law that a server's own stamps rise, under every clock rule and kind of mark. It has no code.
 fn stamps_rise<C: ClockRule, K: MarkKind>(site: Site, sites: SiteCount)
-    ensures { RisingLaw C.ClockRule.answer K.MarkKind.kind site sites }
+    ensures { StampsRise C.ClockRule.answer K.MarkKind.kind site sites }
 {}
 
 // What was received before anything was taken.

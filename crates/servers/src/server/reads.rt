@@ -1,8 +1,8 @@
 // Where a server stands, and its part of the calls that look for versions and drop them.
 ghost use Rattle.std.specs.Prelude.{◌≡◌};
 ghost use Rattle.servers.specs.Laws.{IsLatest, IsTidied};
-ghost use Rattle.servers.specs.Tables.{covered};
-ghost use Rattle.servers.specs.Servers.{view, sees, latest_visible, latest_covered, tidied_up};
+ghost use Rattle.servers.specs.Tables.{is_covered};
+ghost use Rattle.servers.specs.Servers.{view, sees, latest_visible, latest_covered, server_tidy};
 
 use super::Server;
 use crate::sight::{Covered, Visible};
@@ -34,7 +34,7 @@ impl<C: ClockRule, K: MarkKind> Server<C, K> {
     // The latest version of a key that a cut covers.
     pub fn latest_covered(&self, key: u16, cut: K::Mark) -> Option<Version>
         ensures value { result ≡ latest_covered K.MarkKind.kind (view self.now) key (K.MarkKind.meaning cut) }
-        ensures law { IsLatest (covered K.MarkKind.kind (K.MarkKind.meaning cut)) key (view self.now).held result }
+        ensures law { IsLatest (is_covered K.MarkKind.kind (K.MarkKind.meaning cut)) key (view self.now).held result }
     {
         let sight = Covered::<K> { cut };
         self.table.latest(key, &sight)
@@ -42,7 +42,7 @@ impl<C: ClockRule, K: MarkKind> Server<C, K> {
 
     // Drops the versions that are not needed any more under the safe mark, and answers how many.
     pub fn tidy(&mut self, safe: K::Mark) -> usize
-        ensures step { (result, view self.new) ≡ tidied_up K.MarkKind.kind (view self.old) (K.MarkKind.meaning safe) }
+        ensures step { (result, view self.new) ≡ server_tidy K.MarkKind.kind (view self.old) (K.MarkKind.meaning safe) }
         ensures law { IsTidied K.MarkKind.kind (K.MarkKind.meaning safe) (view self.old).held (view self.new).held result }
     {
         self.table.tidy::<K>(safe)

@@ -1,7 +1,7 @@
 // The methods of `VersionTable`.
 ghost use Rattle.std.specs.Prelude.{◌≡◌, []};
-ghost use Rattle.servers.specs.Tables.{latest as latest_of, table_full, kept_if_room, tidying};
-ghost use Rattle.servers.specs.Held.{held};
+ghost use Rattle.servers.specs.Tables.{latest as latest_of, is_table_full, kept_if_room, table_tidy};
+ghost use Rattle.servers.specs.Held.{versions_of};
 ghost use Rattle.servers.specs.Laws.{IsLatest, IsTidied};
 
 use super::{Needed, VersionTable};
@@ -12,7 +12,7 @@ use stamps::mark_kind::MarkKind;
 
 impl VersionTable {
     pub(crate) fn new(filler: Version) -> VersionTable
-        ensures { held result ≡ [] }
+        ensures { versions_of result ≡ [] }
     {
         VersionTable {
             versions: FixedVec::new(filler),
@@ -20,22 +20,22 @@ impl VersionTable {
     }
 
     pub(crate) fn is_full(&self) -> bool
-        ensures { result ≡ table_full (held self.now) }
+        ensures { result ≡ is_table_full (versions_of self.now) }
     {
         self.versions.is_full()
     }
 
     // One version more, at the end; a full table stays as it is.
     pub(crate) fn keep(&mut self, version: &Version)
-        ensures { held self.new ≡ kept_if_room (held self.old) version.now }
+        ensures { versions_of self.new ≡ kept_if_room (versions_of self.old) version.now }
     {
         let _ = self.versions.push(*version);
     }
 
     // Drops every version that has a later one of its key that the safe mark covers, and answers how many.
     pub(crate) fn tidy<K: MarkKind>(&mut self, safe: K::Mark) -> usize
-        ensures step { (result, held self.new) ≡ tidying K.MarkKind.kind (K.MarkKind.meaning safe) (held self.old) }
-        ensures law { IsTidied K.MarkKind.kind (K.MarkKind.meaning safe) (held self.old) (held self.new) result }
+        ensures step { (result, versions_of self.new) ≡ table_tidy K.MarkKind.kind (K.MarkKind.meaning safe) (versions_of self.old) }
+        ensures law { IsTidied K.MarkKind.kind (K.MarkKind.meaning safe) (versions_of self.old) (versions_of self.new) result }
     {
         let before = self.versions;
         let needed = Needed::<K> {
@@ -48,8 +48,8 @@ impl VersionTable {
 
     // The latest version of a key that is shown. The search keeps its place, and copies one version at the end.
     pub(crate) fn latest<S: Sight>(&self, key: u16, sight: &S) -> Option<Version>
-        ensures value { result ≡ latest_of (S.Sight.shows sight.now) key (held self.now) }
-        ensures law { IsLatest (S.Sight.shows sight.now) key (held self.now) result }
+        ensures value { result ≡ latest_of (S.Sight.shows sight.now) key (versions_of self.now) }
+        ensures law { IsLatest (S.Sight.shows sight.now) key (versions_of self.now) result }
     {
         let versions = self.versions.as_slice();
         let mut found = None;

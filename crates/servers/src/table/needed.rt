@@ -1,6 +1,6 @@
 // Which versions tidying keeps.
 ghost use Rattle.std.specs.Prelude.{◌≡◌, not};
-ghost use Rattle.servers.specs.Tables.{outdated, outdated_by};
+ghost use Rattle.servers.specs.Tables.{is_outdated, is_outdated_by};
 
 use crate::version::Version;
 use fixed_vec::Keeps;
@@ -14,7 +14,7 @@ pub(crate) struct Needed<'a, K: MarkKind> {
 }
 
 impl<'a, K: MarkKind> Keeps<Version> for Needed<'a, K> {
-    ghost keeps = { λ s v. not (outdated K.MarkKind.kind (K.MarkKind.meaning s.safe) s.versions.now v) };
+    ghost keeps = { λ s v. not (is_outdated K.MarkKind.kind (K.MarkKind.meaning s.safe) s.versions.now v) };
 
     fn keeps(&self, item: &Version) -> bool {
         !self.is_outdated(item)
@@ -24,14 +24,14 @@ impl<'a, K: MarkKind> Keeps<Version> for Needed<'a, K> {
 impl<'a, K: MarkKind> Needed<'a, K> {
     // Whether a version of the table replaces the item.
     fn is_outdated(&self, item: &Version) -> bool
-        ensures { result ≡ outdated K.MarkKind.kind (K.MarkKind.meaning self.now.safe) self.now.versions.now item.now }
+        ensures { result ≡ is_outdated K.MarkKind.kind (K.MarkKind.meaning self.now.safe) self.now.versions.now item.now }
     {
         self.versions.iter().any(|other| self.replaces(other, item))
     }
 
     // Whether `other` is a later version of the item's key that the safe mark covers.
     fn replaces(&self, other: &Version, item: &Version) -> bool
-        ensures { result ≡ outdated_by K.MarkKind.kind (K.MarkKind.meaning self.now.safe) item.now other.now }
+        ensures { result ≡ is_outdated_by K.MarkKind.kind (K.MarkKind.meaning self.now.safe) item.now other.now }
     {
         other.key == item.key
             && other.is_later(item)

@@ -1,6 +1,6 @@
 // How rows are made, read, compared and combined.
 ghost use Rattle.std.specs.Prelude.{◌≡◌};
-ghost use Rattle.stamps.specs.Rows.{listed, row_of, at, same, only, with_entry, covers, join, meet, greatest, least};
+ghost use Rattle.stamps.specs.Rows.{site_list, row_of, at, same, only, with_entry, covers, join, meet, greatest, least};
 ghost use Rattle.stamps.specs.Checks.{checked_row};
 
 use super::Row;
@@ -53,7 +53,7 @@ impl Row {
 
     // The four entries as plain numbers.
     pub fn entries(&self) -> [u64; 4]
-        ensures { result ≡ listed self.now }
+        ensures { result ≡ site_list self.now }
     {
         self.entries
     }

@@ -1,5 +1,5 @@
 use Rattle.std.proofs.Common.{◌≡◌, sym, ap, subst, arith, take_all}
-use Rattle.stamps.specs.CommonFloors.{common_floor, GreatestCommon}
+use Rattle.stamps.specs.CommonFloors.{common_floor, IsGreatestCommon}
 use Rattle.stamps.proofs.CommonFloors.{AllStamps, all_stamps_more, common_floor_more, common_floor_greatest}
 use Rattle.stamps.proofs.common_floor.lowered.Goals as goal
 
@@ -25,4 +25,4 @@ returns g c =
     let all = ap (λ rs. common_floor k rs) every in
     let is : g.K.MarkKind.meaning c.loop-row.mark ≡ common_floor k rows = cc in
     let stamps = subst AllStamps every c.loop-row.invariant.stamps in
-    record { value = is; greatest = subst (GreatestCommon k rows) (sym is) (common_floor_greatest k g.met.K.MarkKind.lawful rows stamps) }
+    record { value = is; greatest = subst (IsGreatestCommon k rows) (sym is) (common_floor_greatest k g.met.K.MarkKind.lawful rows stamps) }

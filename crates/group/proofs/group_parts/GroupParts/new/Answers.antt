@@ -1,11 +1,11 @@
 use Rattle.std.proofs.Common.{◌≡◌, ℕ, List, [], ◌∷◌, None, Option, sym, refl, ap, ◌∙◌, subst, arith}
-use Rattle.servers.specs.Servers.{ServerState, fresh}
-use Rattle.group.specs.Model.Groups.{SessionState, SeatState, made}
+use Rattle.servers.specs.Servers.{ServerState, new_server}
+use Rattle.group.specs.Model.Groups.{SessionState, SeatState, new_group}
 use Rattle.group.specs.Model.GroupStore.{group_store}
 use Rattle.group.specs.Model.Promises.{KeepsPromises}
 use Rattle.group.proofs.Model.Theorem.{keeps_promises}
 use Rattle.group.proofs.Views.{state_with, at_made, quartets}
-use Rattle.group.specs.Parts.{at}
+use Rattle.group.specs.Parts.{server_from}
 use Rattle.group.proofs.group_parts.GroupParts.new.Goals as goal
 
 -- each of the four servers is fresh for its own site, and there are no sessions and no open snapshots; such a group keeps
@@ -16,7 +16,7 @@ returns g c =
     let layout = c.args.layout in
     let is =
     whole _ _ _ _ _
-    (ap (at layout.sites) (servers_are (c.made_at.ensures ∙ ap (fresh 0) sites) (c.made_at-2.ensures ∙ ap (fresh 0) sites) (c.made_at-3.ensures ∙ ap (fresh 0) sites) (c.made_at-4.ensures ∙ ap (fresh 0) sites) (c.made_at-5.ensures ∙ ap (fresh 1) sites) (c.made_at-6.ensures ∙ ap (fresh 1) sites) (c.made_at-7.ensures ∙ ap (fresh 1) sites) (c.made_at-8.ensures ∙ ap (fresh 1) sites) (c.made_at-9.ensures ∙ ap (fresh 2) sites) (c.made_at-10.ensures ∙ ap (fresh 2) sites) (c.made_at-11.ensures ∙ ap (fresh 2) sites) (c.made_at-12.ensures ∙ ap (fresh 2) sites) (c.made_at-13.ensures ∙ ap (fresh 3) sites) (c.made_at-14.ensures ∙ ap (fresh 3) sites) (c.made_at-15.ensures ∙ ap (fresh 3) sites) (c.made_at-16.ensures ∙ ap (fresh 3) sites))
+    (ap (server_from layout.sites) (servers_are (c.made_at.ensures ∙ ap (new_server 0) sites) (c.made_at-2.ensures ∙ ap (new_server 0) sites) (c.made_at-3.ensures ∙ ap (new_server 0) sites) (c.made_at-4.ensures ∙ ap (new_server 0) sites) (c.made_at-5.ensures ∙ ap (new_server 1) sites) (c.made_at-6.ensures ∙ ap (new_server 1) sites) (c.made_at-7.ensures ∙ ap (new_server 1) sites) (c.made_at-8.ensures ∙ ap (new_server 1) sites) (c.made_at-9.ensures ∙ ap (new_server 2) sites) (c.made_at-10.ensures ∙ ap (new_server 2) sites) (c.made_at-11.ensures ∙ ap (new_server 2) sites) (c.made_at-12.ensures ∙ ap (new_server 2) sites) (c.made_at-13.ensures ∙ ap (new_server 3) sites) (c.made_at-14.ensures ∙ ap (new_server 3) sites) (c.made_at-15.ensures ∙ ap (new_server 3) sites) (c.made_at-16.ensures ∙ ap (new_server 3) sites))
     ∙ at_made layout.sites _ _ _ _ refl refl refl refl)
     c.new-2.ensures
     c.new-3.ensures
@@ -37,9 +37,9 @@ returns g c =
     servers_are e0 e1 e2 e3 e4 e5 e6 e7 e8 e9 e10 e11 e12 e13 e14 e15 = cc
 
     whole : (sites partitions : ℕ) (server : ℕ → ℕ → ServerState) (sessions : List SessionState) (seats : List (Option SeatState))
-        → server ≡ (λ site partition. fresh site sites) → sessions ≡ [] → seats ≡ None ∷ None ∷ None ∷ None ∷ []
-        → state_with (record { sites = sites; partitions = partitions; sessions = sessions; seats = seats; next = 0 }) server ≡ made sites partitions
+        → server ≡ (λ site partition. new_server site sites) → sessions ≡ [] → seats ≡ None ∷ None ∷ None ∷ None ∷ []
+        → state_with (record { sites = sites; partitions = partitions; sessions = sessions; seats = seats; next = 0 }) server ≡ new_group sites partitions
     whole sites partitions server sessions seats p q r =
         ap (λ t. state_with (record { sites = sites; partitions = partitions; sessions = sessions; seats = seats; next = 0 }) t) p
-        ∙ ap (λ t. state_with (record { sites = sites; partitions = partitions; sessions = t; seats = seats; next = 0 }) (λ site partition. fresh site sites)) q
-        ∙ ap (λ t. state_with (record { sites = sites; partitions = partitions; sessions = []; seats = t; next = 0 }) (λ site partition. fresh site sites)) r
+        ∙ ap (λ t. state_with (record { sites = sites; partitions = partitions; sessions = t; seats = seats; next = 0 }) (λ site partition. new_server site sites)) q
+        ∙ ap (λ t. state_with (record { sites = sites; partitions = partitions; sessions = []; seats = t; next = 0 }) (λ site partition. new_server site sites)) r

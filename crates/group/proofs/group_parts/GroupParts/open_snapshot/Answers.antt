@@ -1,7 +1,7 @@
 use Rattle.std.proofs.Common.{ltb, sym, ap, ◌∙◌, arith}
 use Rattle.servers.specs.Servers.{ServerState}
 use Rattle.group.specs.Model.Groups.{session_at}
-use Rattle.group.specs.Model.Calls.{learning}
+use Rattle.group.specs.Model.Calls.{learn}
 use Rattle.group.specs.Parts.{view}
 use Rattle.group.proofs.Views.{at_numbers, passed}
 use Rattle.group.proofs.Sessions.{seats_it}
@@ -18,6 +18,6 @@ returns-clause-step g c =
     seats_it k before mid (view c.take_seat.new.self) c.args.session p c.in-Some.number c.stable-cut.result
     c.take_seat.result.seat c.take_seat.result.serial
     is.0 (sym c.if-not-has_session.ensures) (sym c.lowest_free.ensures ∙ c.in-Some.is) self.seats.sized (omega arith)
-    (c.learn-place.ensures.state ∙ ap (λ q. learning k before c.args.session (session_at before c.args.session) q) is.1)
+    (c.learn-place.ensures.state ∙ ap (λ q. learn k before c.args.session (session_at before c.args.session) q) is.1)
     (c.stable-cut.ensures ∙ ap (λ (s : ServerState). s.marks.stable) (c.server.ensures ∙ at_numbers mid c.learn-place.result (session_at before c.args.session).site p (c.learn-place.ensures.place ∙ ap (λ n. ((session_at before c.args.session).site, n)) is.1)))
     c.take_seat.ensures.ticket.0 c.take_seat.ensures.ticket.1 c.take_seat.ensures.seated

@@ -3,9 +3,9 @@ use Rattle.stamps.specs.declared.refusal.Refusal.{Refusal}
 use Rattle.stamps.specs.declared.stamp.Stamp.{Stamp}
 use Rattle.stamps.specs.Refusals.{RefusalKeeps}
 use Rattle.stamps.specs.Rows.{join}
-use Rattle.servers.specs.Servers.{ServerState, putting}
+use Rattle.servers.specs.Servers.{ServerState, server_put}
 use Rattle.group.specs.Model.Groups.{SessionState, partition_of}
-use Rattle.group.specs.Model.Calls.{put_worth}
+use Rattle.group.specs.Model.Calls.{put_value}
 use Rattle.group.specs.Parts.{view}
 use Rattle.group.proofs.Views.{refused_same}
 use Rattle.group.proofs.Sessions.{puts, puts_not, writes}
@@ -22,7 +22,7 @@ returns-in_err-stamp g c =
     let p = partition_of before c.args.key in
     let why = c.in_err-stamp.field-0.0 in
     let refused : c.from_residual.result ≡ Err why = search rules in
-    let t = putting rule k (before.server x.site p) c.args.key value (k.floor x.depends) (k.floor x.knows) in
+    let t = server_put rule k (before.server x.site p) c.args.key value (k.floor x.depends) (k.floor x.knows) in
     let wrote =
     writes rule k before mid x.site c.args.key c.partition_of.result p value (g.K.MarkKind.meaning c.floor-mark.result) (k.floor x.depends)
     (g.K.MarkKind.meaning c.floor.result) (k.floor x.knows) (Err why) c.partition_of.ensures c.floor-mark.ensures.value c.floor.ensures.value
@@ -31,7 +31,7 @@ returns-in_err-stamp g c =
     record {
       step =
           ap (λ (r : Result Stamp Refusal). (r, mid)) refused ∙ puts_not k before mid c.args.number c.args.key why x value t wrote
-          ∙ ap (λ s. put_worth rule k before c.args.number c.args.key s (Ok value)) (c.session.view_is ∙ c.session_at-session.ensures);
+          ∙ ap (λ s. put_value rule k before c.args.number c.args.key s (Ok value)) (c.session.view_is ∙ c.session_at-session.ensures);
       keeps = subst (λ r. RefusalKeeps r before mid) (sym refused) (refused_same before mid x.site p why t wrote);
     }
 
@@ -45,7 +45,7 @@ returns g c =
     let value = c.args.value in
     let p = partition_of before c.args.key in
     let stamp = c.in_ok-stamp.stamp in
-    let t = putting rule k (before.server x.site p) c.args.key value (k.floor x.depends) (k.floor x.knows) in
+    let t = server_put rule k (before.server x.site p) c.args.key value (k.floor x.depends) (k.floor x.knows) in
     let mark = g.K.MarkKind.meaning c.floor-mark.result in
     let own = g.met.K.MarkKind.lawful.floor_own mark c.floor-mark.ensures.means.0 c.floor-mark.ensures.means.1 in
     let source = (before.server x.site p).site in
@@ -62,6 +62,6 @@ returns g c =
     record {
       step =
           puts k before mid (view c.set_session.new.self) c.args.number c.args.key stamp x value t (c.row-depends.result) wrote full c.set_session.ensures
-          ∙ ap (λ s. put_worth rule k before c.args.number c.args.key s (Ok value)) (c.session.view_is ∙ c.session_at-session.ensures);
+          ∙ ap (λ s. put_value rule k before c.args.number c.args.key s (Ok value)) (c.session.view_is ∙ c.session_at-session.ensures);
       keeps = tt;
     }

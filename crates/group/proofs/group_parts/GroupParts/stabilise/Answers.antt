@@ -1,11 +1,11 @@
 use Rattle.std.proofs.Common.{ℕ, Ok, ap, ◌∙◌, rules}
-use Rattle.stamps.specs.Rows.{Four}
+use Rattle.stamps.specs.Rows.{PerSite}
 use Rattle.fixed_vec.specs.Items.{items}
 use Rattle.stamps.specs.CommonFloors.{common_floor}
 use Rattle.group.specs.Model.Groups.{reported_at}
-use Rattle.servers.specs.Servers.{raised}
+use Rattle.servers.specs.Servers.{server_raise}
 use Rattle.group.specs.Model.Calls.{has_server}
-use Rattle.group.specs.Parts.{called_at, view}
+use Rattle.group.specs.Parts.{call_server_at, view}
 use Rattle.group.proofs.Views.{by_numbers, on_place, passed}
 use Rattle.group.proofs.Rows.{rows_lem}
 use Rattle.group.proofs.group_parts.GroupParts.stabilise.Goals as goal
@@ -25,5 +25,5 @@ returns-clause-step g c =
     ∙ by_numbers (λ site partition. common_floor k (reported_at before site)) c.args.site c.args.partition place is.1
     in
     ap (λ t. (Ok tt, t)) c.raise.ensures
-    ∙ ap (λ (mark : Four). called_at before place (λ s. (Ok tt, raised k s mark))) floor
-    ∙ on_place before c.args.site c.args.partition place (λ s. (Ok tt, raised k s (common_floor k (reported_at before c.args.site)))) c.in_ok-place.ensures
+    ∙ ap (λ (mark : PerSite). call_server_at before place (λ s. (Ok tt, server_raise k s mark))) floor
+    ∙ on_place before c.args.site c.args.partition place (λ s. (Ok tt, server_raise k s (common_floor k (reported_at before c.args.site)))) c.in_ok-place.ensures

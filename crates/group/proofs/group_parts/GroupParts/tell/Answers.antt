@@ -1,5 +1,5 @@
 use Rattle.std.proofs.Common.{arith}
-use Rattle.servers.specs.Servers.{telling}
+use Rattle.servers.specs.Servers.{server_tell}
 use Rattle.group.specs.Parts.{view}
 use Rattle.group.proofs.Views.{rest_of, on_server_lem, on_server_keeps}
 use Rattle.group.proofs.group_parts.GroupParts.tell.Goals as goal
@@ -9,6 +9,6 @@ returns g c =
     let self = c.args.self.now in
     let step =
     on_server_lem (rest_of self) self.servers c.args.site c.args.partition c.in_ok-place.place c.index.result c.index-self-index.result c.tell.new.self c.tell.result
-    (λ s. telling s c.args.time) c.in_ok-place.ensures (omega arith) (omega arith, omega arith) c.index.ensures c.tell.ensures.step c.tell.ensures.keeps
+    (λ s. server_tell s c.args.time) c.in_ok-place.ensures (omega arith) (omega arith, omega arith) c.index.ensures c.tell.ensures.step c.tell.ensures.keeps
     in
-    record { step = step; keeps = on_server_keeps (view self) _ c.args.site c.args.partition c.tell.result (λ s. telling s c.args.time) step }
+    record { step = step; keeps = on_server_keeps (view self) _ c.args.site c.args.partition c.tell.result (λ s. server_tell s c.args.time) step }

@@ -1,10 +1,10 @@
 use Rattle.std.proofs.Common.{◌≡◌, ℕ, Err, ap, ◌∙◌, rules}
-use Rattle.stamps.specs.Rows.{Four}
+use Rattle.stamps.specs.Rows.{PerSite}
 use Rattle.stamps.specs.CommonFloors.{common_floor}
-use Rattle.group.specs.Model.Calls.{counted, safe_mark}
-use Rattle.servers.specs.Servers.{tidied_up}
+use Rattle.group.specs.Model.Calls.{with_ok, safe_mark}
+use Rattle.servers.specs.Servers.{server_tidy}
 use Rattle.group.specs.Model.Calls.{has_server}
-use Rattle.group.specs.Parts.{called_at, view}
+use Rattle.group.specs.Parts.{call_server_at, view}
 use Rattle.group.proofs.Views.{by_numbers, on_no_place, on_place, passed}
 use Rattle.group.proofs.group_parts.GroupParts.tidy.Goals as goal
 
@@ -15,7 +15,7 @@ returns-in_err-place-clause-step g c =
     let why = c.in_err-place.field-0.0 in
     let refused : c.from_residual.result ≡ Err why = search rules in
     ap (λ r. (r, before)) refused
-    ∙ on_no_place before c.args.site c.args.partition why (λ s. counted (tidied_up k s (safe_mark k before c.args.site))) c.in_err-place.ensures
+    ∙ on_no_place before c.args.site c.args.partition why (λ s. with_ok (server_tidy k s (safe_mark k before c.args.site))) c.in_err-place.ensures
 
 pub returns-clause-step : goal.returns-clause-step
 returns-clause-step g c =
@@ -29,5 +29,5 @@ returns-clause-step g c =
     ∙ by_numbers (λ site partition. safe_mark k before site) c.args.site c.args.partition place is.1
     in
     c.drop_outdated.ensures
-    ∙ ap (λ (mark : Four). called_at before place (λ s. counted (tidied_up k s mark))) safe
-    ∙ on_place before c.args.site c.args.partition place (λ s. counted (tidied_up k s (safe_mark k before c.args.site))) c.in_ok-place.ensures
+    ∙ ap (λ (mark : PerSite). call_server_at before place (λ s. with_ok (server_tidy k s mark))) safe
+    ∙ on_place before c.args.site c.args.partition place (λ s. with_ok (server_tidy k s (safe_mark k before c.args.site))) c.in_ok-place.ensures

@@ -5,8 +5,8 @@ use Rattle.fixed_vec.specs.Items.{items, pushed}
 use Rattle.fixed_vec.specs.declared.fixed_vec.FixedVec.{FixedVec}
 use Rattle.fixed_vec.specs.declared.fixed_vec.Full.{Full}
 use Rattle.stamps.specs.Rows.{greatest}
-use Rattle.servers.specs.Lefts.{OthersOnly}
-use Rattle.servers.specs.Outboxes.{issued, last_for, outbox_full, waiting}
+use Rattle.servers.specs.Lefts.{IsOthersOnly}
+use Rattle.servers.specs.Outboxes.{issue_entry, last_for, is_outbox_full, queues_of}
 use Rattle.servers.specs.declared.entry.Entry.{Entry}
 use Rattle.servers.specs.declared.outbox.Outbox.{Outbox}
 use Rattle.servers.proofs.Queues.{issue_queues, issue_counts, full_is}
@@ -14,7 +14,7 @@ use Rattle.servers.proofs.outbox.Outbox.issue.Goals as goal
 
 -- there is room, so the entry stands at the end
 appended : (o : Outbox) (entry : Entry) (r : Result (Unit {0}) Full) (after : FixedVec Entry 16)
-    → false ≡ outbox_full o.peers.own o.peers.sites (waiting o) → (r, items after) ≡ pushed 16 (items o.entries) entry
+    → false ≡ is_outbox_full o.peers.own o.peers.sites (queues_of o) → (r, items after) ≡ pushed 16 (items o.entries) entry
     → items after ≡ items o.entries ++ entry ∷ []
 appended o entry r after room push =
     let es = items o.entries in
@@ -31,7 +31,7 @@ invariant_of-self c =
     let long = ap length items_are ∙ length-append (items o.entries) (c.args.entry ∷ []) in
     record {
       sites = o.sites;
-      others = subst (OthersOnly o.peers.own o.peers.sites) (sym c.one_more-self.ensures) after.0;
+      others = subst (IsOthersOnly o.peers.own o.peers.sites) (sym c.one_more-self.ensures) after.0;
       needed = ap greatest c.one_more-self.ensures ∙ after.1 ∙ sym long;
     }
 
@@ -48,6 +48,6 @@ returns c =
           ap (λ xs. last_for xs c.one_more-self.result) items_are
           ∙ ap (last_for (es ++ e ∷ [])) c.one_more-self.ensures
           ∙ issue_queues own sites es e o.left o.sites.1 o.others o.needed
-          ∙ sym (cond-false (outbox_full own sites (waiting o)) (waiting o) (issued own sites (waiting o) e) (sym c.if-is_full.ensures));
+          ∙ sym (cond-false (is_outbox_full own sites (queues_of o)) (queues_of o) (issue_entry own sites (queues_of o) e) (sym c.if-is_full.ensures));
       peers = refl;
     }

@@ -2,7 +2,7 @@ use Rattle.std.proofs.Common.{◌≡◌, ◌-◌, ◌≤◌, length, drop, sym, 
 use Rattle.std.proofs.lemmas.List.{length-drop}
 use Rattle.fixed_vec.specs.Items.{items}
 use Rattle.stamps.specs.Rows.{greatest}
-use Rattle.servers.specs.Lefts.{OthersOnly}
+use Rattle.servers.specs.Lefts.{IsOthersOnly}
 use Rattle.servers.specs.Outboxes.{last_for}
 use Rattle.servers.proofs.Queues.{fewer_counts, kept_queues, take_queues}
 use Rattle.servers.proofs.outbox.Outbox.take.Goals as goal
@@ -17,7 +17,7 @@ invariant_of-self c =
     let kept = ap length c.keep_last.ensures ∙ length-drop (length es - c.greatest.result) es in
     record {
       sites = o.sites;
-      others = subst (OthersOnly o.peers.own o.peers.sites) (sym left) after.0;
+      others = subst (IsOthersOnly o.peers.own o.peers.sites) (sym left) after.0;
       needed = omega (arith, c.greatest.ensures, most, kept, after.1);
     }
 

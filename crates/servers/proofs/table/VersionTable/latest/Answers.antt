@@ -1,10 +1,10 @@
 use Rattle.std.proofs.Common.{◌≡◌, ℕ, ◌<◌, ◌≤◌, Bool, List, length, get_or, Some, None, Option, refl, sym, ap, ◌∙◌, subst, arith}
 use Rattle.std.proofs.lemmas.List.{get_or_default, get_or_read_under}
 use Rattle.std.proofs.lemmas.Bool.Decides.{nat_tests}
-use Rattle.servers.specs.Held.{held}
+use Rattle.servers.specs.Held.{versions_of}
 use Rattle.servers.specs.Laws.{IsLatest}
 use Rattle.servers.specs.declared.version.Version.{Version}
-use Rattle.servers.specs.Tables.{better, latest}
+use Rattle.servers.specs.Tables.{better_of, latest}
 use Rattle.servers.proofs.Latest.{latest_law}
 use Rattle.servers.proofs.Seeking.{nothing, seek_all, seek_more, standing, stands, within}
 use Rattle.servers.proofs.table.VersionTable.latest.Goals as goal
@@ -14,7 +14,7 @@ use Rattle.servers.proofs.table.VersionTable.latest.Goals.{then-version-key+then
 turn : (g : _) (c : goal.Joined-version-key g)
     → within c.if-version-key.found (length c.as_slice-versions.result.now)
     × (standing nothing c.as_slice-versions.result.now c.if-version-key.found
-    ≡ better (g.S.Sight.shows c.args.sight.now) c.args.key (standing nothing c.as_slice-versions.result.now c.loop-i.found) (get_or c.as_slice-versions.result.now c.loop-i.i nothing))
+    ≡ better_of (g.S.Sight.shows c.args.sight.now) c.args.key (standing nothing c.as_slice-versions.result.now c.loop-i.found) (get_or c.as_slice-versions.result.now c.loop-i.i nothing))
 turn g c =
     let vs = c.as_slice-versions.result.now in
     let here = get_or_read_under vs c.loop-i.i (length vs) c.index-versions-i.result nothing c.index-versions-i.is c.loop-i-test.true refl in
@@ -50,7 +50,7 @@ returns-in_default g c =
     let shows = g.S.Sight.shows c.args.sight.now in
     let le : length vs ≤ c.loop-i.i = c.loop-i-test.false in
     let is = ap (standing nothing vs) (sym c.in_default.is) ∙ seek_all shows c.args.key nothing vs c.loop-i.i c.loop-i.found le c.loop-i.invariant.1 ∙ ap (λ xs. latest shows c.args.key xs) c.as_slice-versions.ensures in
-    record { value = is; law = lawful shows c.args.key (held c.args.self.now) None is }
+    record { value = is; law = lawful shows c.args.key (versions_of c.args.self.now) None is }
 
 pub returns : goal.returns
 returns g c =
@@ -62,4 +62,4 @@ returns g c =
     let is =
     stands xs c.in-Some-found.index c.index-versions-index.result c.index-versions-index.is inside ∙ ap (standing nothing vs) (sym c.in-Some-found.is)
     ∙ seek_all shows c.args.key nothing vs c.loop-i.i c.loop-i.found le c.loop-i.invariant.1 ∙ ap (λ ys. latest shows c.args.key ys) c.as_slice-versions.ensures in
-    record { value = is; law = lawful shows c.args.key (held c.args.self.now) (Some c.index-versions-index.result) is }
+    record { value = is; law = lawful shows c.args.key (versions_of c.args.self.now) (Some c.index-versions-index.result) is }
