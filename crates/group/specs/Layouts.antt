@@ -1,5 +1,5 @@
 -- Layouts: which counts pass the check, and which servers there are.
-use Rattle.std.specs.Prelude.{ℕ, cond, ◌&&◌, Ok, Err, Result, nat_le, nat_lt}
+use Rattle.std.specs.Prelude.{ℕ, if◌then◌else◌, ◌&&◌, Ok, Err, Result, nat_le, nat_lt}
 use Rattle.stamps.specs.declared.refusal.Refusal.{Refusal}
 use Rattle.stamps.specs.declared.refusal.Refusal.TheVariants.{BadLayout, NotInLayout}
 use Rattle.group.specs.Model.Groups.{is_line, is_server}
@@ -13,17 +13,17 @@ counts_of (Err why) = Err why
 -- 2 to 4 sites and 1 to 4 partitions
 abbrev pub checked_counts : ℕ → ℕ → Result (ℕ × ℕ) Refusal
 checked_counts sites partitions =
-    cond (nat_le 2 sites && (nat_le sites 4 && (nat_le 1 partitions && nat_le partitions 4))) (Ok (sites, partitions)) (Err BadLayout)
+    if nat_le 2 sites && (nat_le sites 4 && (nat_le 1 partitions && nat_le partitions 4)) then Ok (sites, partitions) else Err BadLayout
 
 -- a site or a partition among so many, or the refusal
 abbrev pub below : ℕ → ℕ → Result ℕ Refusal
-below count number = cond (nat_lt number count) (Ok number) (Err NotInLayout)
+below count number = if nat_lt number count then Ok number else Err NotInLayout
 
 -- the site and the partition of a server
 abbrev pub checked_place : ℕ → ℕ → ℕ → ℕ → Result (ℕ × ℕ) Refusal
-checked_place sites partitions site partition = cond (is_server sites partitions site partition) (Ok (site, partition)) (Err NotInLayout)
+checked_place sites partitions site partition = if is_server sites partitions site partition then Ok (site, partition) else Err NotInLayout
 
 -- the two servers of a line
 abbrev pub checked_line : ℕ → ℕ → ℕ → ℕ → ℕ → Result ((ℕ × ℕ) × (ℕ × ℕ)) Refusal
 checked_line sites partitions from to partition =
-    cond (is_line sites partitions from to partition) (Ok ((from, partition), (to, partition))) (Err NotInLayout)
+    if is_line sites partitions from to partition then Ok ((from, partition), (to, partition)) else Err NotInLayout

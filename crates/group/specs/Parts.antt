@@ -1,5 +1,5 @@
 -- A group in plain numbers.
-use Rattle.std.specs.Prelude.{◌≡◌, ℕ, zero, suc, ◌<◌, cond, ◌&&◌, List, [], ◌∷◌, ◌++◌, map, length, Result, nat_lt, slice_index_or}
+use Rattle.std.specs.Prelude.{◌≡◌, ℕ, zero, suc, ◌<◌, if◌then◌else◌, ◌&&◌, List, [], ◌∷◌, ◌++◌, map, length, Result, nat_lt, slice_index_or}
 use Rattle.fixed_vec.specs.Items.{items}
 use Rattle.servers.specs.Servers.{ServerState, new_server, view as server_view}
 use Rattle.servers.specs.declared.server.Server.{Server}
@@ -14,7 +14,7 @@ use Rattle.group.specs.Places.{place_of}
 -- the server of a site and a partition; past the array, a server as it is made
 abbrev pub server_from : ℕ → List ServerState → ℕ → ℕ → ServerState
 server_from sites servers site partition =
-    cond (nat_lt site 4 && nat_lt partition 4) (slice_index_or servers (place_of site partition) (new_server site sites)) (new_server site sites)
+    if nat_lt site 4 && nat_lt partition 4 then slice_index_or servers (place_of site partition) (new_server site sites) else new_server site sites
 
 abbrev pub view : {C K Mark : Type 0} → GroupParts C K Mark → GroupState
 view g =

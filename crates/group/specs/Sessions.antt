@@ -1,5 +1,5 @@
 -- Open snapshots.
-use Rattle.std.specs.Prelude.{ℕ, cond, List, length, Some, None, Ok, Err, Option, Result, ◌==◌, nat_lt}
+use Rattle.std.specs.Prelude.{ℕ, if◌then◌else◌, List, length, Some, None, Ok, Err, Option, Result, ◌==◌, nat_lt}
 use Rattle.stamps.specs.declared.refusal.Refusal.{Refusal}
 use Rattle.stamps.specs.declared.refusal.Refusal.TheVariants.{NotOpen}
 use Rattle.stamps.specs.Rows.{PerSite}
@@ -7,14 +7,14 @@ use Rattle.group.specs.Model.Groups.{GroupState, SeatState, lowest_free, session
 
 -- the lowest free seat, if one is free
 abbrev pub free_seat : List (Option SeatState) → Option ℕ
-free_seat ys = cond (nat_lt (lowest_free ys) (length ys)) (Some (lowest_free ys)) None
+free_seat ys = if nat_lt (lowest_free ys) (length ys) then Some (lowest_free ys) else None
 
 -- the cut of an open snapshot of a site's session
 abbrev pub cut_in : GroupState → ℕ → Option SeatState → Option PerSite
 cut_in g site None = None
-cut_in g site (Some y) = cond ((session_at g y.session).site == site) (Some y.cut) None
+cut_in g site (Some y) = if (session_at g y.session).site == site then Some y.cut else None
 
 -- the open snapshot at a seat, if it is open under a serial number
 abbrev pub open_at : ℕ → Option SeatState → Result SeatState Refusal
 open_at serial None = Err NotOpen
-open_at serial (Some y) = cond (y.serial == serial) (Ok y) (Err NotOpen)
+open_at serial (Some y) = if y.serial == serial then Ok y else Err NotOpen

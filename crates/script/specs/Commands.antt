@@ -1,5 +1,5 @@
 -- Commands: a letter, then operands of fixed width, high byte first.
-use Rattle.std.specs.Prelude.{ℕ, ◌+◌, ◌*◌, cond, List, [], ◌∷◌, length, drop, Some, None, Ok, Err, Option, Result, ◌==◌, nat_le, slice_index}
+use Rattle.std.specs.Prelude.{ℕ, ◌+◌, ◌*◌, if◌then◌else◌, cond, List, [], ◌∷◌, length, drop, Some, None, Ok, Err, Option, Result, ◌==◌, nat_le, slice_index}
 use Rattle.std.specs.Borrow.{Bor}
 use Rattle.stamps.specs.declared.refusal.Refusal.{Refusal}
 use Rattle.stamps.specs.declared.refusal.Refusal.TheVariants.{ShortCommand, UnknownLetter}
@@ -75,11 +75,11 @@ form_of letter =
     -- Q
     (cond (letter == 81) (Some (server_form Lead))
     -- V
-    (cond (letter == 86) (Some view_form) None)))))))))))
+    (if letter == 86 then Some view_form else None)))))))))))
 
 -- from the bytes after a letter: the command of its form, and the bytes after its operands
 abbrev pub formed : Form → List ℕ → Result (Command × List ℕ) Refusal
-formed f bytes = cond (nat_le f.width (length bytes)) (Ok (f.make bytes, drop f.width bytes)) (Err ShortCommand)
+formed f bytes = if nat_le f.width (length bytes) then Ok (f.make bytes, drop f.width bytes) else Err ShortCommand
 
 abbrev pub read_form : Option Form → List ℕ → Result (Command × List ℕ) Refusal
 read_form None bytes = Err UnknownLetter

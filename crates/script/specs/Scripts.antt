@@ -1,5 +1,5 @@
 -- A script, command by command, over whatever obeys its commands; and the listing of a whole one.
-use Rattle.std.specs.Prelude.{ℕ, zero, suc, ◌+◌, ◌*◌, cond, List, [], ◌∷◌, ◌++◌, length, take, drop, Some, None, Ok, Err, Option, Result, ◌==◌, nat_lt}
+use Rattle.std.specs.Prelude.{ℕ, zero, suc, ◌+◌, ◌*◌, if◌then◌else◌, List, [], ◌∷◌, ◌++◌, length, take, drop, Some, None, Ok, Err, Option, Result, ◌==◌, nat_lt}
 use Rattle.std.specs.List.{concat}
 use Rattle.stamps.specs.declared.refusal.Refusal.{Refusal}
 use Rattle.stamps.specs.declared.refusal.Refusal.TheVariants.{ShortBuffer}
@@ -69,11 +69,11 @@ placed s buffer (Some (line, after)) = (Ok (Some (length line)), after, line ++ 
 
 -- the first line, if none was listed before
 abbrev pub first_line : ScriptState Store → Option (List ℕ × ScriptState Store)
-first_line s = cond (s.lines == 0) (next obeyed s) None
+first_line s = if s.lines == 0 then next obeyed s else None
 
 -- a line into a buffer; one under 96 bytes is refused before anything is done
 abbrev pub line_into : {S : Type 0} → (S → Option (List ℕ × S)) → S → List ℕ → Result (Option ℕ) Refusal × S × List ℕ
-line_into line s buffer = cond (nat_lt (length buffer) 96) (Err ShortBuffer, s, buffer) (placed s buffer (line s))
+line_into line s buffer = if nat_lt (length buffer) 96 then (Err ShortBuffer, s, buffer) else placed s buffer (line s)
 
 -- a line, if there is one, and more lines after it
 abbrev pub lines_after : {S : Type 0} → (S → List (List ℕ)) → Option (List ℕ × S) → List (List ℕ)
@@ -96,5 +96,4 @@ listing bytes = concat (lines_of bytes)
 -- the listing goes to the start of a buffer of at least 96 bytes for each line, and the bytes past it stay
 abbrev pub listing_into : List ℕ → List ℕ → Result ℕ Refusal × List ℕ
 listing_into bytes buffer =
-    cond (nat_lt (length buffer) (96 * length (lines_of bytes))) (Err ShortBuffer, buffer)
-    (Ok (length (listing bytes)), listing bytes ++ drop (length (listing bytes)) buffer)
+    if nat_lt (length buffer) (96 * length (lines_of bytes)) then (Err ShortBuffer, buffer) else (Ok (length (listing bytes)), listing bytes ++ drop (length (listing bytes)) buffer)

@@ -1,5 +1,5 @@
 -- A group of any built clock rule and kind of mark, or none yet, and what a command does to it.
-use Rattle.std.specs.Prelude.{ℕ, cond, Ok, Err, Result, ◌==◌}
+use Rattle.std.specs.Prelude.{ℕ, if◌then◌else◌, Ok, Err, Result, ◌==◌}
 use Rattle.stamps.specs.declared.refusal.Refusal.{Refusal}
 use Rattle.stamps.specs.declared.refusal.Refusal.TheVariants.{BadLayout, LayoutMisplaced}
 use Rattle.stamps.specs.Clocks as clocks
@@ -45,11 +45,11 @@ store (HybridEach g) = made Hybrid Each (group.view g)
 
 -- the letters of the clock rules: 82 is R, 72 is H
 abbrev pub clock_of : ℕ → Result Clock Refusal
-clock_of letter = cond (letter == 82) (Ok Raw) (cond (letter == 72) (Ok Hybrid) (Err BadLayout))
+clock_of letter = if letter == 82 then Ok Raw else if letter == 72 then Ok Hybrid else Err BadLayout
 
 -- the letters of the kinds of mark: 79 is O, 69 is E
 abbrev pub marks_of : ℕ → Result Marks Refusal
-marks_of letter = cond (letter == 79) (Ok One) (cond (letter == 69) (Ok Each) (Err BadLayout))
+marks_of letter = if letter == 79 then Ok One else if letter == 69 then Ok Each else Err BadLayout
 
 -- the group that a script's first command makes, which has to be a layout
 abbrev pub made_store : Command → Result Store Refusal

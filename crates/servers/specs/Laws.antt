@@ -1,5 +1,5 @@
 -- Laws of one server, in the words of the subject.
-use Rattle.std.specs.Prelude.{◌≡◌, ℕ, ◌+◌, ◌^◌, ◌<◌, ◌≤◌, Bool, true, false, cond, ◌⊎◌, List, [], ◌∷◌, ◌++◌, length, Some, None, Ok, Err, Option, Result, ◌==◌}
+use Rattle.std.specs.Prelude.{◌≡◌, ℕ, ◌+◌, ◌^◌, ◌<◌, ◌≤◌, Bool, true, false, if◌then◌else◌, ◌⊎◌, List, [], ◌∷◌, ◌++◌, length, Some, None, Ok, Err, Option, Result, ◌==◌}
 use Rattle.stamps.specs.declared.refusal.Refusal.{Refusal}
 use Rattle.stamps.specs.Kinds.{Kind}
 use Rattle.stamps.specs.Rows.{PerSite, HasStamps}
@@ -68,10 +68,9 @@ listed (Some x) = x ∷ []
 -- with an outbox that is full nothing is issued
 abbrev pub traffic_after : ℕ → ℕ → Traffic → Move → Traffic
 traffic_after own sites t (issue e) =
-    cond (is_outbox_full own sites t.queues) t
-    (record { queues = issue_entry own sites t.queues e; sent = t.sent ++ e ∷ []; taken = t.taken })
+    if is_outbox_full own sites t.queues then t else record { queues = issue_entry own sites t.queues e; sent = t.sent ++ e ∷ []; taken = t.taken }
 traffic_after own sites t (take site) =
-    record { queues = take_entry t.queues site; sent = t.sent; taken = λ i. cond (i == site) (t.taken i ++ listed (first (t.queues i))) (t.taken i) }
+    record { queues = take_entry t.queues site; sent = t.sent; taken = λ i. if i == site then t.taken i ++ listed (first (t.queues i)) else t.taken i }
 
 abbrev pub traffic : ℕ → ℕ → List Move → Traffic
 traffic own sites [] = record { queues = empty_queues; sent = []; taken = λ i. [] }

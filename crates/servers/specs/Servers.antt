@@ -1,5 +1,5 @@
 -- One server: its state in plain numbers, and its part of each call.
-use Rattle.std.specs.Prelude.{ℕ, Bool, cond, List, [], ◌∷◌, ◌++◌, ℤ, pos, ◌-ℤ◌, Ok, Err, Option, Result, nat_lt}
+use Rattle.std.specs.Prelude.{ℕ, Bool, if◌then◌else◌, List, [], ◌∷◌, ◌++◌, ℤ, pos, ◌-ℤ◌, Ok, Err, Option, Result, nat_lt}
 use Rattle.stamps.specs.declared.refusal.Refusal.{Refusal}
 use Rattle.stamps.specs.declared.refusal.Refusal.TheVariants.{NotInLayout, ReadingBehind, TableFull, OutboxFull}
 use Rattle.stamps.specs.Checks.{checked_reading}
@@ -52,7 +52,7 @@ view s =
 
 -- nothing was received yet; a site that the layout lacks never sends anything
 abbrev pub first_entry : ℕ → ℕ → ℕ
-first_entry sites site = cond (nat_lt site sites) 0 top_stamp
+first_entry sites site = if nat_lt site sites then 0 else top_stamp
 
 abbrev pub first_received : ℕ → PerSite
 first_received sites = record { site0 = first_entry sites 0; site1 = first_entry sites 1; site2 = first_entry sites 2; site3 = first_entry sites 3 }
@@ -85,7 +85,7 @@ with_marks s marks = record s { marks = marks }
 abbrev pub server_tell_checked : ServerState → Result ℕ Refusal → Result (Unit {0}) Refusal × ServerState
 server_tell_checked s (Err why) = (Err why, s)
 server_tell_checked s (Ok time) =
-    cond (nat_lt time s.reading) (Err ReadingBehind, s) (Ok tt, record s { reading = time })
+    if nat_lt time s.reading then (Err ReadingBehind, s) else (Ok tt, record s { reading = time })
 
 abbrev pub server_tell : ServerState → ℕ → Result (Unit {0}) Refusal × ServerState
 server_tell s time = server_tell_checked s (checked_reading time)
@@ -101,7 +101,7 @@ server_heartbeat_with s (Err why) = (Err why, s)
 server_heartbeat_with s (Ok stamp) = (Ok stamp, server_issue s (Heartbeat stamp))
 
 abbrev pub server_heartbeat : Rule → ServerState → Result ℕ Refusal × ServerState
-server_heartbeat rule s = cond (is_outbox_full s.site s.sites s.waiting) (Err OutboxFull, s) (server_heartbeat_with s (rule (last_of s) s.reading 0))
+server_heartbeat rule s = if is_outbox_full s.site s.sites s.waiting then (Err OutboxFull, s) else server_heartbeat_with s (rule (last_of s) s.reading 0)
 
 -- the time of the last stamp less the reading
 abbrev pub lead_of : ServerState → ℤ
@@ -134,9 +134,7 @@ server_put_with k s key value depends knows (Ok stamp) =
 -- entry of what the session depends on
 abbrev pub server_put : Rule → Kind → ServerState → ℕ → Value → PerSite → PerSite → Result ℕ Refusal × ServerState
 server_put rule k s key value depends knows =
-    cond (is_table_full s.held) (Err TableFull, s)
-    (cond (is_outbox_full s.site s.sites s.waiting) (Err OutboxFull, s)
-    (server_put_with k s key value depends knows (rule (last_of s) s.reading (greatest depends))))
+    if is_table_full s.held then (Err TableFull, s) else if is_outbox_full s.site s.sites s.waiting then (Err OutboxFull, s) else server_put_with k s key value depends knows (rule (last_of s) s.reading (greatest depends))
 
 -- an entry of this stamp was taken from a site
 abbrev pub server_receive : ServerState → ℕ → ℕ → ServerState
@@ -145,11 +143,11 @@ server_receive s from stamp = with_marks s (with_received s.marks from stamp)
 -- an entry of another site of the layout is taken: a full table refuses an update
 abbrev pub server_take_other : ServerState → ℕ → Entry → Result (Unit {0}) Refusal × ServerState
 server_take_other s from (Heartbeat stamp) = (Ok tt, server_receive s from stamp)
-server_take_other s from (Update v) = cond (is_table_full s.held) (Err TableFull, s) (Ok tt, server_receive (server_keep s v) from v.stamp)
+server_take_other s from (Update v) = if is_table_full s.held then (Err TableFull, s) else (Ok tt, server_receive (server_keep s v) from v.stamp)
 
 -- take: an entry of any other origin is refused before anything else
 abbrev pub server_take : ServerState → ℕ → Entry → Result (Unit {0}) Refusal × ServerState
-server_take s from e = cond (is_other s.site s.sites from) (server_take_other s from e) (Err NotInLayout, s)
+server_take s from e = if is_other s.site s.sites from then server_take_other s from e else (Err NotInLayout, s)
 
 -- a site has taken its next entry
 abbrev pub server_hand_over : ServerState → ℕ → ServerState

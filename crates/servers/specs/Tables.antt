@@ -1,5 +1,5 @@
 -- Tables of versions: the latest that is shown, and tidying.
-use Rattle.std.specs.Prelude.{ℕ, ◌-◌, Bool, cond, not, ◌&&◌, ◌||◌, List, [], ◌∷◌, ◌++◌, length, Some, None, Option, ◌==◌, nat_le, filter}
+use Rattle.std.specs.Prelude.{ℕ, ◌-◌, Bool, if◌then◌else◌, not, ◌&&◌, ◌||◌, List, [], ◌∷◌, ◌++◌, length, Some, None, Option, ◌==◌, nat_le, filter}
 use Rattle.std.specs.List.{list_any}
 use Rattle.stamps.specs.Rows.{PerSite, covers}
 use Rattle.stamps.specs.Kinds.{Kind}
@@ -16,8 +16,8 @@ is_visible k site stable v = v.source == site || is_covered k stable v
 
 -- the better of what was found before and one version more: it has to be of the key, and shown
 abbrev pub better_of : (Version → Bool) → ℕ → Option Version → Version → Option Version
-better_of shows key None v = cond (v.key == key && shows v) (Some v) None
-better_of shows key (Some best) v = cond (v.key == key && (shows v && is_later v best)) (Some v) (Some best)
+better_of shows key None v = if v.key == key && shows v then Some v else None
+better_of shows key (Some best) v = if v.key == key && (shows v && is_later v best) then Some v else Some best
 
 -- the latest of a key that is shown
 abbrev pub latest_from : (Version → Bool) → ℕ → Option Version → List Version → Option Version
@@ -48,4 +48,4 @@ is_table_full vs = nat_le 32 (length vs)
 
 -- one version more, if there is room
 abbrev pub kept_if_room : List Version → Version → List Version
-kept_if_room vs v = cond (is_table_full vs) vs (vs ++ v ∷ [])
+kept_if_room vs v = if is_table_full vs then vs else vs ++ v ∷ []

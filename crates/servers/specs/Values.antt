@@ -1,5 +1,5 @@
 -- Values: the kind and the amount of each case.
-use Rattle.std.specs.Prelude.{ℕ, ◌^◌, cond, ◌&&◌, Ok, Err, Result, ◌==◌, nat_le, nat_lt}
+use Rattle.std.specs.Prelude.{ℕ, ◌^◌, if◌then◌else◌, ◌&&◌, Ok, Err, Result, ◌==◌, nat_le, nat_lt}
 use Rattle.stamps.specs.declared.refusal.Refusal.{Refusal}
 use Rattle.stamps.specs.declared.refusal.Refusal.TheVariants.{Unlawful}
 use Rattle.servers.specs.declared.value.Value.{Value}
@@ -26,8 +26,4 @@ amount_of (BasisOf basis) = amount_of_basis basis
 -- the value of a kind and an amount
 abbrev pub value_from : ℕ → ℕ → Result Value Refusal
 value_from kind amount =
-    cond (kind == 0 && amount == 0) (Ok Gone)
-    (cond (kind == 1 && nat_lt amount (2 ^ 32)) (Ok (Price amount))
-    (cond (kind == 2 && nat_le amount 10000) (Ok (Percent amount))
-    (cond (kind == 3 && amount == 0) (Ok (BasisOf Part))
-    (cond (kind == 3 && amount == 1) (Ok (BasisOf Sheet)) (Err Unlawful)))))
+    if kind == 0 && amount == 0 then Ok Gone else if kind == 1 && nat_lt amount (2 ^ 32) then Ok (Price amount) else if kind == 2 && nat_le amount 10000 then Ok (Percent amount) else if kind == 3 && amount == 0 then Ok (BasisOf Part) else if kind == 3 && amount == 1 then Ok (BasisOf Sheet) else Err Unlawful

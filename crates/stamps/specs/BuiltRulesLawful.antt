@@ -1,5 +1,5 @@
 -- Proofs that the two rules meet what every rule owes. They state nothing new; the proof of a law has to stand in specs/.
-use Rattle.std.specs.Prelude.{◌≡◌, ℕ, ◌^◌, ◌<◌, Bool, true, false, cond, ◌||◌, Ok, Err, ◌==◌, nat_le, refl}
+use Rattle.std.specs.Prelude.{◌≡◌, ℕ, ◌^◌, ◌<◌, Bool, true, false, if◌then◌else◌, ◌||◌, Ok, Err, ◌==◌, nat_le, refl}
 use Rattle.std.proofs.Common.{inl, inr, arith}
 use Rattle.stamps.specs.declared.refusal.Refusal.TheVariants.{Early, End}
 use Rattle.std.proofs.lemmas.Bool.{leb-false}
@@ -10,7 +10,7 @@ use Rattle.stamps.specs.Clocks.{IsLawfulRule, IsAllowed, raw, hybrid, new_time, 
 -- the answer, by what the two tests came to
 raw_allowed : (p q : Bool) (last reading dependency : ℕ) → reading < 2 ^ 47
     → nat_le (stamp_of reading 0) last ≡ p → nat_le (stamp_of reading 0) dependency ≡ q
-    → IsAllowed last dependency (cond (p || q) (Err Early) (Ok (stamp_of reading 0)))
+    → IsAllowed last dependency (if p || q then Err Early else Ok (stamp_of reading 0))
 raw_allowed true q last reading dependency r a b = inl refl
 raw_allowed false true last reading dependency r a b = inl refl
 raw_allowed false false last reading dependency r a b = (omega (arith, leb-false), omega (arith, leb-false), omega arith)
@@ -24,7 +24,7 @@ count last time dependency = new_count (time_of last == time) (time_of dependenc
 
 hybrid_allowed : (p q : Bool) (last reading dependency : ℕ) → last < 2 ^ 63 → reading < 2 ^ 47 → dependency < 2 ^ 63
     → (last == top_stamp) ≡ p → (dependency == top_stamp) ≡ q
-    → IsAllowed last dependency (cond (p || q) (Err End) (Ok (carry (new_time last reading dependency) (count last (new_time last reading dependency) dependency))))
+    → IsAllowed last dependency (if p || q then Err End else Ok (carry (new_time last reading dependency) (count last (new_time last reading dependency) dependency)))
 hybrid_allowed true q last reading dependency l r d a b = inr refl
 hybrid_allowed false true last reading dependency l r d a b = inr refl
 hybrid_allowed false false last reading dependency l r d a b = (grind (arith, nat_tests), grind (arith, nat_tests), grind (arith, nat_tests))

@@ -1,5 +1,5 @@
 -- Plain numbers from outside: which are stamps, readings, sites and rows, and how the others are refused.
-use Rattle.std.specs.Prelude.{ℕ, ◌^◌, Bool, cond, ◌&&◌, List, Ok, Err, Result, nat_lt}
+use Rattle.std.specs.Prelude.{ℕ, ◌^◌, Bool, if◌then◌else◌, ◌&&◌, List, Ok, Err, Result, nat_lt}
 use Rattle.stamps.specs.declared.refusal.Refusal.{Refusal}
 use Rattle.stamps.specs.declared.refusal.Refusal.TheVariants.{NotInLayout, Unlawful}
 use Rattle.stamps.specs.Rows.{PerSite, per_site}
@@ -8,15 +8,15 @@ abbrev pub is_stamp : ℕ → Bool
 is_stamp n = nat_lt n (2 ^ 63)
 
 abbrev pub checked_stamp : ℕ → Result ℕ Refusal
-checked_stamp n = cond (is_stamp n) (Ok n) (Err Unlawful)
+checked_stamp n = if is_stamp n then Ok n else Err Unlawful
 
 abbrev pub checked_reading : ℕ → Result ℕ Refusal
-checked_reading n = cond (nat_lt n (2 ^ 47)) (Ok n) (Err Unlawful)
+checked_reading n = if nat_lt n (2 ^ 47) then Ok n else Err Unlawful
 
 abbrev pub checked_site : ℕ → Result ℕ Refusal
-checked_site n = cond (nat_lt n 4) (Ok n) (Err NotInLayout)
+checked_site n = if nat_lt n 4 then Ok n else Err NotInLayout
 
 abbrev pub checked_row : List ℕ → Result PerSite Refusal
 checked_row xs =
     let x = per_site xs in
-    cond (is_stamp x.site0 && (is_stamp x.site1 && (is_stamp x.site2 && is_stamp x.site3))) (Ok x) (Err Unlawful)
+    if is_stamp x.site0 && (is_stamp x.site1 && (is_stamp x.site2 && is_stamp x.site3)) then Ok x else Err Unlawful

@@ -1,5 +1,5 @@
 -- Clock rules: what every rule owes, and the two that are built.
-use Rattle.std.specs.Prelude.{◌≡◌, ℕ, ◌+◌, ◌^◌, ◌<◌, max, Bool, true, false, cond, ◌||◌, ◌⊎◌, Ok, Err, Result, ◌==◌, nat_le, nat_lt}
+use Rattle.std.specs.Prelude.{◌≡◌, ℕ, ◌+◌, ◌^◌, ◌<◌, max, Bool, true, false, if◌then◌else◌, ◌||◌, ◌⊎◌, Ok, Err, Result, ◌==◌, nat_le, nat_lt}
 use Rattle.stamps.specs.declared.refusal.Refusal.{Refusal}
 use Rattle.stamps.specs.declared.refusal.Refusal.TheVariants.{Early, End}
 use Rattle.stamps.specs.Stamps.{top_stamp, stamp_of, time_of, count_of}
@@ -15,7 +15,7 @@ pub record IsLawfulRule (answer : ℕ → ℕ → ℕ → Result ℕ Refusal) : 
 -- raw: the reading's first stamp, if that is above both
 abbrev pub raw : ℕ → ℕ → ℕ → Result ℕ Refusal
 raw last reading dependency =
-    cond (nat_le (stamp_of reading 0) last || nat_le (stamp_of reading 0) dependency) (Err Early) (Ok (stamp_of reading 0))
+    if nat_le (stamp_of reading 0) last || nat_le (stamp_of reading 0) dependency then Err Early else Ok (stamp_of reading 0)
 
 -- hybrid: the greatest of the three times
 abbrev pub new_time : ℕ → ℕ → ℕ → ℕ
@@ -30,10 +30,9 @@ new_count false false of_last of_dependency = 0
 
 -- a count that passes 65,535 makes the time one more and the count 0
 abbrev pub carry : ℕ → ℕ → ℕ
-carry time count = cond (nat_lt 65535 count) (stamp_of (time + 1) 0) (stamp_of time count)
+carry time count = if nat_lt 65535 count then stamp_of (time + 1) 0 else stamp_of time count
 
 abbrev pub hybrid : ℕ → ℕ → ℕ → Result ℕ Refusal
 hybrid last reading dependency =
     let time = new_time last reading dependency in
-    cond (last == top_stamp || dependency == top_stamp) (Err End)
-    (Ok (carry time (new_count (time_of last == time) (time_of dependency == time) (count_of last) (count_of dependency))))
+    if last == top_stamp || dependency == top_stamp then Err End else Ok (carry time (new_count (time_of last == time) (time_of dependency == time) (count_of last) (count_of dependency)))

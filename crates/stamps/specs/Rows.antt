@@ -1,5 +1,5 @@
 -- Rows: four stamps, one for each site number.
-use Rattle.std.specs.Prelude.{ℕ, ◌^◌, ◌<◌, ◌≤◌, min, max, Bool, cond, ◌&&◌, List, [], ◌∷◌, ◌==◌, nat_le, slice_index}
+use Rattle.std.specs.Prelude.{ℕ, ◌^◌, ◌<◌, ◌≤◌, min, max, Bool, if◌then◌else◌, ◌&&◌, List, [], ◌∷◌, ◌==◌, nat_le, slice_index}
 
 pub record PerSite : Type 0 where
   pub site0 : ℕ
@@ -24,7 +24,7 @@ HasStamps x = (x.site0 < 2 ^ 63) × (x.site1 < 2 ^ 63) × (x.site2 < 2 ^ 63) × 
 
 -- the entry of a site
 abbrev pub at : PerSite → ℕ → ℕ
-at x site = cond (site == 0) x.site0 (cond (site == 1) x.site1 (cond (site == 2) x.site2 x.site3))
+at x site = if site == 0 then x.site0 else if site == 1 then x.site1 else if site == 2 then x.site2 else x.site3
 
 -- the same stamp at each site
 abbrev pub same : ℕ → PerSite
@@ -33,16 +33,16 @@ same s = record { site0 = s; site1 = s; site2 = s; site3 = s }
 -- a stamp at one site, and 0 at the others
 abbrev pub only : ℕ → ℕ → PerSite
 only site s =
-    record { site0 = cond (site == 0) s 0; site1 = cond (site == 1) s 0; site2 = cond (site == 2) s 0; site3 = cond (site == 3) s 0 }
+    record { site0 = if site == 0 then s else 0; site1 = if site == 1 then s else 0; site2 = if site == 2 then s else 0; site3 = if site == 3 then s else 0 }
 
 -- another stamp at one site
 abbrev pub with_entry : PerSite → ℕ → ℕ → PerSite
 with_entry x site s =
     record {
-      site0 = cond (site == 0) s x.site0;
-      site1 = cond (site == 1) s x.site1;
-      site2 = cond (site == 2) s x.site2;
-      site3 = cond (site == 3) s x.site3;
+      site0 = if site == 0 then s else x.site0;
+      site1 = if site == 1 then s else x.site1;
+      site2 = if site == 2 then s else x.site2;
+      site3 = if site == 3 then s else x.site3;
     }
 
 -- x covers y: it is at least as high at each entry

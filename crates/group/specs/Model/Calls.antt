@@ -1,5 +1,5 @@
 -- What each call of a group answers, and the group after it. Refusals stand in the order in which they are checked.
-use Rattle.std.specs.Prelude.{ℕ, suc, ◌-◌, ◌^◌, Bool, cond, [], ◌∷◌, ◌++◌, length, Some, None, Ok, Err, Option, Result, ◌==◌, nat_le, nat_lt}
+use Rattle.std.specs.Prelude.{ℕ, suc, ◌-◌, ◌^◌, Bool, if◌then◌else◌, [], ◌∷◌, ◌++◌, length, Some, None, Ok, Err, Option, Result, ◌==◌, nat_le, nat_lt}
 use Rattle.stamps.specs.declared.refusal.Refusal.{Refusal}
 use Rattle.stamps.specs.declared.refusal.Refusal.TheVariants.{NotInLayout, NoSession, NoneFree, NothingWaits, NotOpen, End}
 use Rattle.stamps.specs.Rows.{PerSite, join}
@@ -26,7 +26,7 @@ server_left g site partition (Err why, s) = (Err why, g)
 -- a call of one server: refused if the layout lacks it
 abbrev pub on_server : {A : Type 0} → GroupState → ℕ → ℕ → (ServerState → Result A Refusal × ServerState) → Result A Refusal × GroupState
 on_server g site partition act =
-    cond (has_server g site partition) (server_left g site partition (act (g.server site partition))) (Err NotInLayout, g)
+    if has_server g site partition then server_left g site partition (act (g.server site partition)) else (Err NotInLayout, g)
 
 -- the same, of what is never refused
 abbrev pub change_server : GroupState → ℕ → ℕ → (ServerState → ServerState) → Result Done Refusal × GroupState
@@ -34,12 +34,12 @@ change_server g site partition change = on_server g site partition (λ s. (Ok tt
 
 -- a call of a session: refused if it was not opened
 abbrev pub on_session : {A : Type 0} → GroupState → ℕ → (SessionState → Result A Refusal × GroupState) → Result A Refusal × GroupState
-on_session g i act = cond (nat_lt i (length g.sessions)) (act (session_at g i)) (Err NoSession, g)
+on_session g i act = if nat_lt i (length g.sessions) then act (session_at g i) else (Err NoSession, g)
 
 -- a call of an open snapshot: refused if its seat is not open under its serial number
 abbrev pub on_seat_of : {A : Type 0} → GroupState → ℕ → Option SeatState → (SeatState → Result A Refusal × GroupState) → Result A Refusal × GroupState
 on_seat_of g serial None act = (Err NotOpen, g)
-on_seat_of g serial (Some y) act = cond (y.serial == serial) (act y) (Err NotOpen, g)
+on_seat_of g serial (Some y) act = if y.serial == serial then act y else (Err NotOpen, g)
 
 abbrev pub on_seat : {A : Type 0} → GroupState → Ticket → (SeatState → Result A Refusal × GroupState) → Result A Refusal × GroupState
 on_seat g ticket act = on_seat_of g ticket.serial (seat_at g ticket.seat) act
@@ -47,9 +47,7 @@ on_seat g ticket act = on_seat_of g ticket.serial (seat_at g ticket.seat) act
 -- open session
 abbrev pub open_session_step : GroupState → ℕ → Result ℕ Refusal × GroupState
 open_session_step g site =
-    cond (nat_lt site g.sites)
-    (cond (nat_le 8 (length g.sessions)) (Err NoneFree, g) (Ok (length g.sessions), with_sessions g (g.sessions ++ (new_session site ∷ []))))
-    (Err NotInLayout, g)
+    if nat_lt site g.sites then if nat_le 8 (length g.sessions) then (Err NoneFree, g) else (Ok (length g.sessions), with_sessions g (g.sessions ++ (new_session site ∷ []))) else (Err NotInLayout, g)
 
 -- a session depends on this mark from then on
 abbrev pub with_depends : SessionState → PerSite → SessionState
@@ -92,12 +90,11 @@ learn k g i x partition =
 -- open snapshot: the seat is the lowest free one
 abbrev pub open_snapshot_at : Kind → GroupState → ℕ → SessionState → ℕ → ℕ → Result Ticket Refusal × GroupState
 open_snapshot_at k g i x partition seat =
-    cond (nat_le 4 seat) (Err NoneFree, g)
-    (cond (nat_le (2 ^ 32 - 1) g.next_serial) (Err End, g) (
+    if nat_le 4 seat then (Err NoneFree, g) else if nat_le (2 ^ 32 - 1) g.next_serial then (Err End, g) else (
       Ok (record { seat = seat; serial = g.next_serial }),
       with_seat (learn k g i x partition) seat
           (Some (record { session = i; serial = g.next_serial; cut = (informed_server k g x partition).marks.stable })) (suc g.next_serial),
-    ))
+    )
 
 -- deliver: the next entry that waits, if there is one, is taken, and then it is taken out of the outbox
 abbrev pub deliver_left : GroupState → ℕ → ℕ → ℕ → Result Done Refusal × ServerState → Result Done Refusal × GroupState
@@ -124,13 +121,11 @@ step rule k g (get i key) =
     on_session g i (λ x. show k (learn k g i x (partition_of g key)) i (latest_visible k (informed_server k g x (partition_of g key)) key))
 step rule k g (heartbeat site partition) = on_server g site partition (server_heartbeat rule)
 step rule k g (deliver from to partition) =
-    cond (is_line g.sites g.partitions from to partition)
-    (deliver_entry g from to partition (next_for (g.server from partition).waiting to))
-    (Err NotInLayout, g)
+    if is_line g.sites g.partitions from to partition then deliver_entry g from to partition (next_for (g.server from partition).waiting to) else (Err NotInLayout, g)
 step rule k g (report site partition) = change_server g site partition (server_report k)
 step rule k g (stabilise site partition) = change_server g site partition (λ s. server_raise k s (common_floor k (reported_at g site)))
 step rule k g (open_snapshot i partition) =
-    cond (nat_lt partition g.partitions) (on_session g i (λ x. open_snapshot_at k g i x partition (lowest_free g.seats))) (Err NotInLayout, g)
+    if nat_lt partition g.partitions then on_session g i (λ x. open_snapshot_at k g i x partition (lowest_free g.seats)) else (Err NotInLayout, g)
 step rule k g (read ticket key) =
     on_seat g ticket (λ y.
     let x = session_at g y.session in
@@ -138,4 +133,4 @@ step rule k g (read ticket key) =
     show k (with_server g x.site (partition_of g key) s) y.session (latest_covered k s key (k.floor y.cut)))
 step rule k g (close ticket) = on_seat g ticket (λ y. (Ok tt, with_seat g ticket.seat None g.next_serial))
 step rule k g (tidy site partition) = on_server g site partition (λ s. with_ok (server_tidy k s (safe_mark k g site)))
-step rule k g (lead site partition) = cond (has_server g site partition) (Ok (lead_of (g.server site partition)), g) (Err NotInLayout, g)
+step rule k g (lead site partition) = if has_server g site partition then (Ok (lead_of (g.server site partition)), g) else (Err NotInLayout, g)

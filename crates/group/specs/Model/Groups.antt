@@ -1,5 +1,5 @@
 -- A group in plain numbers: its servers, its sessions and its open snapshots.
-use Rattle.std.specs.Prelude.{ℕ, zero, suc, ◌%◌, Bool, cond, not, ◌&&◌, List, [], ◌∷◌, ◌++◌, Some, None, Option, ◌==◌, nat_lt, slice_index_or, slice_set}
+use Rattle.std.specs.Prelude.{ℕ, zero, suc, ◌%◌, Bool, if◌then◌else◌, not, ◌&&◌, List, [], ◌∷◌, ◌++◌, Some, None, Option, ◌==◌, nat_lt, slice_index_or, slice_set}
 use Rattle.stamps.specs.Rows.{PerSite, same}
 use Rattle.servers.specs.Servers.{ServerState, new_server}
 
@@ -67,7 +67,7 @@ seat_at g a = slice_index_or g.seats a None
 -- one server or one session replaced
 abbrev pub with_server : GroupState → ℕ → ℕ → ServerState → GroupState
 with_server g site partition s =
-    record g { server = λ i n. cond (i == site && n == partition) s (g.server i n) }
+    record g { server = λ i n. if i == site && n == partition then s else g.server i n }
 
 abbrev pub with_sessions : GroupState → List SessionState → GroupState
 with_sessions g sessions = record g { sessions = sessions }
@@ -101,7 +101,7 @@ stable_at g site = tabulate (λ n. (g.server site n).marks.stable) g.partitions
 abbrev pub cuts_of : GroupState → ℕ → List (Option SeatState) → List PerSite
 cuts_of g site [] = []
 cuts_of g site (None ∷ ys) = cuts_of g site ys
-cuts_of g site (Some y ∷ ys) = cond ((session_at g y.session).site == site) (y.cut ∷ cuts_of g site ys) (cuts_of g site ys)
+cuts_of g site (Some y ∷ ys) = if (session_at g y.session).site == site then y.cut ∷ cuts_of g site ys else cuts_of g site ys
 
 abbrev pub cuts_at : GroupState → ℕ → List PerSite
 cuts_at g site = cuts_of g site g.seats

@@ -1,17 +1,17 @@
 -- The past of a session and of a put, read from calls and answers only.
-use Rattle.std.specs.Prelude.{◌≡◌, ℕ, cond, ◌⊎◌, [], ◌∷◌, Some, None, Option, ◌==◌}
+use Rattle.std.specs.Prelude.{◌≡◌, ℕ, if◌then◌else◌, ◌⊎◌, [], ◌∷◌, Some, None, Option, ◌==◌}
 use Rattle.group.specs.Model.Events.{Put, Shown, put_shown, session_opened, wrote, got, snapshot_opened, read_by, History}
 
 -- the site of a session: where it was opened
 abbrev pub site_of : History → ℕ → ℕ
 site_of [] session = 0
-site_of (session_opened i site ∷ h) session = cond (session == i) site (site_of h session)
+site_of (session_opened i site ∷ h) session = if session == i then site else site_of h session
 site_of (other ∷ h) session = site_of h session
 
 -- the session that opened the snapshot of a serial number
 abbrev pub reader_of : History → ℕ → ℕ
 reader_of [] serial = 0
-reader_of (snapshot_opened i ticket ∷ h) serial = cond (serial == ticket.serial) i (reader_of h serial)
+reader_of (snapshot_opened i ticket ∷ h) serial = if serial == ticket.serial then i else reader_of h serial
 reader_of (other ∷ h) serial = reader_of h serial
 
 -- Whose past: a session's, or that of a put.
