@@ -3,6 +3,7 @@ ghost use Rattle.std.specs.Prelude.{◌≡◌, ℕ, Result};
 ghost use Rattle.stamps.specs.declared.refusal.Refusal.{Refusal};
 ghost use Rattle.stamps.specs.Clocks.{IsAllowed, IsLawfulRule};
 
+use crate::issued_stamp::IssuedStamp;
 use crate::reading::Reading;
 use crate::refusal::Refusal;
 use crate::stamp::Stamp;
@@ -19,4 +20,19 @@ pub trait ClockRule {
 
     // The whole meaning of a rule: an answered stamp is above both stamps, and a refusal is early or end.
     ghost lawful: { IsLawfulRule answer };
+}
+
+/// The next stamp of a server by a rule: what the rule answers, as a stamp that a clock rule has given.
+pub fn next_stamp<C: ClockRule>(
+    last: Stamp,
+    reading: Reading,
+    dependency: Stamp,
+) -> Result<IssuedStamp, Refusal>
+    ensures value { result ≡ C.ClockRule.answer last reading dependency }
+    ensures allowed { IsAllowed last dependency result }
+{
+    match C::stamp(last, reading, dependency) {
+        Ok(stamp) => Ok(IssuedStamp::of(stamp)),
+        Err(why) => Err(why),
+    }
 }

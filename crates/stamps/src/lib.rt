@@ -6,6 +6,7 @@ pub mod common_floor;
 pub mod each;
 pub mod edges;
 pub mod hybrid;
+pub mod issued_stamp;
 pub mod mark_kind;
 pub mod one;
 pub mod outside;

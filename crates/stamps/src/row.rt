@@ -1,7 +1,7 @@
 // A row: a stamp for each site number.
 use std::marker::Model;
 
-#[derive(Clone, Copy)]
+#[derive(Clone, Copy, Debug, Default)]
 pub struct Row {
     entries: [u64; 4],
 }

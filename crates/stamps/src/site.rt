@@ -2,7 +2,7 @@
 use std::marker::Model;
 
 // From 0 to 3: a row has an entry for each.
-#[derive(Clone, Copy, PartialEq, Eq, PartialOrd, Ord)]
+#[derive(Clone, Copy, Debug, Default, PartialEq, Eq, PartialOrd, Ord)]
 pub struct Site {
     pub(crate) number: u8,
 }

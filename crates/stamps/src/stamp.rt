@@ -2,7 +2,7 @@
 use std::marker::Model;
 
 // The number is time * 65,536 + count. The time has 47 bits and the count 16.
-#[derive(Clone, Copy, PartialEq, Eq, PartialOrd, Ord)]
+#[derive(Clone, Copy, Debug, Default, PartialEq, Eq, PartialOrd, Ord)]
 pub struct Stamp {
     pub(crate) value: u64,
 }
