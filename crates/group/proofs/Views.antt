@@ -14,7 +14,8 @@ use Rattle.group.specs.Model.Calls.{has_server, server_left, on_server}
 use Rattle.servers.specs.declared.server.Server.{Server}
 use Rattle.group.specs.declared.group_parts.GroupParts.{GroupParts}
 use Rattle.group.specs.declared.place.Place.{Place}
-use Rattle.group.specs.Parts.{server_from, call_server_at, server_at, view, with_server_at}
+use Rattle.group.specs.Groups.{server_of, server_from}
+use Rattle.group.specs.Parts.{call_server_at, server_at, server_record, view, with_server_at}
 use Rattle.group.specs.Layouts.{checked_place}
 use Rattle.group.specs.Places.{place_of}
 
@@ -52,12 +53,28 @@ rest_of g =
 abbrev pub IsPlace : Place → Type 0
 IsPlace place = (place.0 < 4) × (place.1 < 4)
 
+-- the servers in plain numbers, and what stands at a place among them
+abbrev pub states : {C K Mark : Type 0} → List (Server C K Mark) → List ServerState
+states servers = map server_of (map server_record servers)
+
+length_states : {C K Mark : Type 0} (servers : List (Server C K Mark)) → length (states servers) ≡ length servers
+length_states servers = length-map (map server_record servers) server_of ∙ length-map servers server_record
+
+states_at : {C K Mark : Type 0} (servers : List (Server C K Mark)) (p : ℕ) (d : Server C K Mark) (s : ServerState) → p < length servers
+    → get_or (states servers) p s ≡ server_view (get_or servers p d)
+states_at servers p d s here =
+    get_or-map server_of (map server_record servers) p (server_record d) s (subst (λ n. p < n) (sym (length-map servers server_record)) here)
+    ∙ ap server_of (get_or-map server_record servers p d (server_record d) here)
+
+states_set : {C K Mark : Type 0} (servers : List (Server C K Mark)) (p : ℕ) (new : Server C K Mark) → states (set servers p new) ≡ set (states servers) p (server_view new)
+states_set servers p new = ap (map server_of) (map-set server_record servers p new) ∙ map-set server_of (map server_record servers) p (server_record new)
+
 -- the server that stands in the array
 pub at_place : {C K Mark : Type 0} (sites : ℕ) (servers : List (Server C K Mark)) (site partition p : ℕ) (d : Server C K Mark)
     → length servers ≡ 16 → site < 4 → partition < 4
-    → p ≡ place_of site partition → server_from sites (map server_view servers) site partition ≡ server_view (get_or servers p d)
+    → p ≡ place_of site partition → server_from sites (states servers) site partition ≡ server_view (get_or servers p d)
 at_place sites servers site partition p d len ls lp e =
-    let m = get_or-map server_view servers p d (new_server site sites) (omega arith) in
+    let m = states_at servers p d (new_server site sites) (omega arith) in
     grind (arith, nat_tests, m)
 
 -- the servers of a site stand side by side
@@ -65,7 +82,7 @@ pub quarter : {C K Mark : Type 0} (sites : ℕ) (servers : List (Server C K Mark
     → length servers ≡ 16 → site < 4 → count ≤ 4 → first ≡ site * 4 → some ≡ count
     → (length (take some (drop first servers)) ≡ count)
     × ((n : ℕ) (d : Server C K Mark) → n < length (take some (drop first servers))
-    → server_view (get_or (take some (drop first servers)) n d) ≡ server_from sites (map server_view servers) site n)
+    → server_view (get_or (take some (drop first servers)) n d) ≡ server_from sites (states servers) site n)
 quarter sites servers site count first some len ls few ef es =
     let rest = drop first servers in
     let left : length rest ≡ 16 - first = omega (arith, length-drop first servers) in
@@ -80,14 +97,14 @@ quarter sites servers site count first some len ls few ef es =
 -- one server changed in the array is that server changed in the group
 pub change_server_lem : {C K Mark : Type 0} (rest : Rest) (servers : List (Server C K Mark)) (place : Place) (p : ℕ) (d new : Server C K Mark) (change : ServerState → ServerState)
     → length servers ≡ 16 → IsPlace place → p ≡ place_of place.0 place.1 → server_view new ≡ change (server_view (get_or servers p d))
-    → (let g = state_with rest (server_from rest.sites (map server_view servers)) in
-    state_with rest (server_from rest.sites (map server_view (set servers p new))) ≡ with_server_at g place (change (server_at g place)))
+    → (let g = state_with rest (server_from rest.sites (states servers)) in
+    state_with rest (server_from rest.sites (states (set servers p new))) ≡ with_server_at g place (change (server_at g place)))
 change_server_lem rest servers place p d new change len is e step =
-    let xs = map server_view servers in
+    let xs = states servers in
     let s = server_view new in
     let g = state_with rest (server_from rest.sites xs) in
-    ap (λ t. state_with rest (server_from rest.sites t)) (map-set server_view servers p new ∙ ap (λ q. set xs q s) e)
-    ∙ ap (state_with rest) (at_set rest.sites xs place.0 place.1 s (length-map servers server_view ∙ len) is.0 is.1)
+    ap (λ t. state_with rest (server_from rest.sites t)) (states_set servers p new ∙ ap (λ q. set xs q s) e)
+    ∙ ap (state_with rest) (at_set rest.sites xs place.0 place.1 s (length_states servers ∙ len) is.0 is.1)
     ∙ ap (λ t. with_server_at g place t) (step ∙ ap change (sym (at_place rest.sites servers place.0 place.1 p d len is.0 is.1 e)))
 
 -- a server's answer, and the group with that server as it was left, are the group's answer and state
@@ -105,13 +122,13 @@ pub call_server : {C K Mark A : Type 0} (rest : Rest) (servers : List (Server C 
     (act : ServerState → Result A Refusal × ServerState)
     → length servers ≡ 16 → IsPlace place → p ≡ place_of place.0 place.1
     → (r, server_view new) ≡ act (server_view (get_or servers p d)) → RefusalKeeps r (server_view (get_or servers p d)) (server_view new)
-    → (r, state_with rest (server_from rest.sites (map server_view (set servers p new)))) ≡ call_server_at (state_with rest (server_from rest.sites (map server_view servers))) place act
+    → (r, state_with rest (server_from rest.sites (states (set servers p new)))) ≡ call_server_at (state_with rest (server_from rest.sites (states servers))) place act
 call_server rest servers place p d new r act len is e step keeps =
     let sites = rest.sites in
-    let xs = map server_view servers in
+    let xs = states servers in
     let there = at_place sites servers place.0 place.1 p d len is.0 is.1 e in
-    ap (λ t. (r, state_with rest (server_from sites t))) (map-set server_view servers p new ∙ ap (λ q. set xs q (server_view new)) e)
-    ∙ left_server rest xs place r (server_view new) (length-map servers server_view ∙ len) is (subst (λ s. RefusalKeeps r s (server_view new)) (sym there) keeps)
+    ap (λ t. (r, state_with rest (server_from sites t))) (states_set servers p new ∙ ap (λ q. set xs q (server_view new)) e)
+    ∙ left_server rest xs place r (server_view new) (length_states servers ∙ len) is (subst (λ s. RefusalKeeps r s (server_view new)) (sym there) keeps)
     ∙ ap (server_left (state_with rest (server_from sites xs)) place.0 place.1) (step ∙ ap act (sym there))
 
 -- what a check of a layout has let through
@@ -149,9 +166,9 @@ pub on_server_lem : {C K Mark A : Type 0} (rest : Rest) (servers : List (Server 
     (act : ServerState → Result A Refusal × ServerState)
     → (Ok place) ≡ checked_place rest.sites rest.partitions site partition → length servers ≡ 16 → IsPlace place → p ≡ place_of place.0 place.1
     → (r, server_view new) ≡ act (server_view (get_or servers p d)) → RefusalKeeps r (server_view (get_or servers p d)) (server_view new)
-    → (r, state_with rest (server_from rest.sites (map server_view (set servers p new)))) ≡ on_server (state_with rest (server_from rest.sites (map server_view servers))) site partition act
+    → (r, state_with rest (server_from rest.sites (states (set servers p new)))) ≡ on_server (state_with rest (server_from rest.sites (states servers))) site partition act
 on_server_lem rest servers site partition place p d new r act found len is e step keeps =
-    call_server rest servers place p d new r act len is e step keeps ∙ on_place (state_with rest (server_from rest.sites (map server_view servers))) site partition place act found
+    call_server rest servers place p d new r act len is e step keeps ∙ on_place (state_with rest (server_from rest.sites (states servers))) site partition place act found
 
 -- a refusal of a server leaves the group as it was
 pub refused_same : {A : Type 0} (g mid : GroupState) (site partition : ℕ) (why : Refusal) (t : Result A Refusal × ServerState)

@@ -2,5 +2,5 @@ pub mod Model
 pub mod Places
 pub mod Layouts
 pub mod Sessions
-pub mod Parts
 pub mod Groups
+pub mod Parts

@@ -1,7 +1,8 @@
--- A group in plain numbers.
-use Rattle.std.specs.Prelude.{◌≡◌, ℕ, zero, suc, ◌<◌, if◌then◌else◌, ◌&&◌, List, [], ◌∷◌, ◌++◌, map, length, Result, nat_lt, slice_index_or}
+-- The parts of a group: what contracts see of them, and one server of them.
+use Rattle.std.specs.Prelude.{◌≡◌, ℕ, zero, suc, ◌<◌, List, [], ◌∷◌, ◌++◌, map, length, Result, slice_index_or}
 use Rattle.fixed_vec.specs.Items.{items}
-use Rattle.servers.specs.Servers.{ServerState, new_server, view as server_view}
+use Rattle.servers.specs.Held.{versions_of}
+use Rattle.servers.specs.Servers.{ServerState, view as server_view}
 use Rattle.servers.specs.declared.server.Server.{Server}
 use Rattle.stamps.specs.declared.row.Row.{Row}
 use Rattle.stamps.specs.declared.refusal.Refusal.{Refusal}
@@ -9,23 +10,38 @@ use Rattle.group.specs.Model.Groups.{GroupState, with_server}
 use Rattle.group.specs.Model.Calls.{server_left}
 use Rattle.group.specs.declared.group_parts.GroupParts.{GroupParts}
 use Rattle.group.specs.declared.place.Place.{Place}
-use Rattle.group.specs.Places.{place_of}
+use Rattle.group.specs.Groups.{ServerRecord, GroupRecord, view as view_of}
 
--- the server of a site and a partition; past the array, a server as it is made
-abbrev pub server_from : ℕ → List ServerState → ℕ → ℕ → ServerState
-server_from sites servers site partition =
-    if nat_lt site 4 && nat_lt partition 4 then slice_index_or servers (place_of site partition) (new_server site sites) else new_server site sites
+-- what contracts see of a server
+abbrev pub server_record : {C K Mark : Type 0} → Server C K Mark → ServerRecord
+server_record s =
+    record {
+      site = s.outbox.peers.own;
+      sites = s.outbox.peers.sites;
+      reading = s.reading;
+      received = s.received;
+      reported = s.reported;
+      stable = s.stable;
+      versions = versions_of s.table;
+      entries = items s.outbox.entries;
+      left = s.outbox.left;
+    }
 
-abbrev pub view : {C K Mark : Type 0} → GroupParts C K Mark → GroupState
-view g =
+-- what contracts see of a group
+abbrev pub group_record : {C K Mark : Type 0} → GroupParts C K Mark → GroupRecord
+group_record g =
     record {
       sites = g.layout.sites;
       partitions = g.layout.partitions;
-      server = server_from g.layout.sites (map server_view g.servers);
+      servers = map server_record g.servers;
       sessions = items g.sessions;
       seats = g.seats.places;
       next_serial = g.next_serial;
     }
+
+-- the group in plain numbers
+abbrev pub view : {C K Mark : Type 0} → GroupParts C K Mark → GroupState
+view g = view_of (group_record g)
 
 -- the server at a place
 abbrev pub server_at : GroupState → Place → ServerState

@@ -3,4 +3,4 @@ use Rattle.group.proofs.Model.Reached.{still_reached}
 use Rattle.group.proofs.group.Group.open_snapshot.Goals as goal
 
 pub invariant_of-self : goal.invariant_of-self
-invariant_of-self g c = record { reached = still_reached (open_snapshot c.args.session c.args.partition) c.open_snapshot.ensures.step c.args.self.now.reached }
+invariant_of-self g c = still_reached (open_snapshot c.args.session c.args.partition) c.open_snapshot.ensures.step c.self.invariant

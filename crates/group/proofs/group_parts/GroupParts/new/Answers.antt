@@ -5,7 +5,7 @@ use Rattle.group.specs.Model.GroupStore.{group_store}
 use Rattle.group.specs.Model.Promises.{KeepsPromises}
 use Rattle.group.proofs.Model.Theorem.{keeps_promises}
 use Rattle.group.proofs.Views.{state_with, at_made, quartets}
-use Rattle.group.specs.Parts.{server_from}
+use Rattle.group.specs.Groups.{server_from}
 use Rattle.group.proofs.group_parts.GroupParts.new.Goals as goal
 
 -- each of the four servers is fresh for its own site, and there are no sessions and no open snapshots; such a group keeps
