@@ -4,7 +4,6 @@ use group::layout::Draft;
 use stamps::hybrid::Hybrid;
 use stamps::one::One;
 use stamps::refusal::Refusal;
-use std::process::Abort;
 use std::test::Fail;
 
 fn refusal_of(sites: u8, partitions: u8) -> Option<Refusal> {
@@ -21,13 +20,13 @@ fn layouts_at_the_edges(rt: HostRuntime) {
     assert_eq!(rt; refusal_of(4, 4), None);
 }
 
-fn group_of(rt: &impl Abort, sites: u8, partitions: u8) -> Group<Hybrid, One> {
-    Group::new(Draft { sites, partitions }.check().expect(rt, "a layout"))
+fn group_of(sites: u8, partitions: u8) -> Result<Group<Hybrid, One>, Refusal> {
+    Ok(Group::new(Draft { sites, partitions }.check()?))
 }
 
 #[test]
 fn servers_outside_the_layout_are_refused(rt: HostRuntime) -> Result<(), Fail> {
-    let mut group = group_of(&rt, 2, 1);
+    let mut group = group_of(2, 1)?;
     assert_eq!(rt; group.tell(2, 0, 5), Err(Refusal::NotInLayout));
     assert_eq!(rt; group.heartbeat(0, 1).err(), Some(Refusal::NotInLayout));
     assert_eq!(rt; group.lead(0, 1), Err(Refusal::NotInLayout));
@@ -39,7 +38,7 @@ fn servers_outside_the_layout_are_refused(rt: HostRuntime) -> Result<(), Fail> {
 
 #[test]
 fn a_call_moves_one_server_alone(rt: HostRuntime) -> Result<(), Fail> {
-    let mut group = group_of(&rt, 2, 2);
+    let mut group = group_of(2, 2)?;
     group.tell(0, 1, 7)?;
     assert_eq!(rt; group.lead(0, 1), Ok(-7));
     assert_eq!(rt; group.lead(0, 0), Ok(0));

@@ -6,18 +6,17 @@ use group::ticket::Ticket;
 use stamps::each::Each;
 use stamps::hybrid::Hybrid;
 use stamps::refusal::Refusal;
-use std::process::Abort;
 use std::test::Fail;
 
 // A group of two sites and one partition, with a session at site 0.
-fn group_of_two(rt: &impl Abort) -> Group<Hybrid, Each> {
+fn group_of_two() -> Result<Group<Hybrid, Each>, Refusal> {
     let draft = Draft {
         sites: 2,
         partitions: 1,
     };
-    let mut group = Group::new(draft.check().expect(rt, "a layout"));
-    group.open_session(0).expect(rt, "a session");
-    group
+    let mut group = Group::new(draft.check()?);
+    group.open_session(0)?;
+    Ok(group)
 }
 
 // Closes what was opened; why not, if it was refused.
@@ -41,7 +40,7 @@ fn amount(shown: Result<Option<Shown>, Refusal>) -> Result<Option<u32>, Refusal>
 
 #[test]
 fn four_snapshots_and_no_fifth(rt: HostRuntime) -> Result<(), Fail> {
-    let mut group = group_of_two(&rt);
+    let mut group = group_of_two()?;
     let first = group.open_snapshot(0, 0);
     let second = group.open_snapshot(0, 0);
     let third = group.open_snapshot(0, 0);
@@ -60,8 +59,8 @@ fn four_snapshots_and_no_fifth(rt: HostRuntime) -> Result<(), Fail> {
 // A ticket of another group, whose seat is not open here.
 #[test]
 fn a_ticket_without_its_seat_is_refused(rt: HostRuntime) -> Result<(), Fail> {
-    let mut other = group_of_two(&rt);
-    let mut group = group_of_two(&rt);
+    let mut other = group_of_two()?;
+    let mut group = group_of_two()?;
     let (read, closed) = match other.open_snapshot(0, 0) {
         Ok(ticket) => {
             let read = amount(group.read(&ticket, 1));
@@ -77,8 +76,8 @@ fn a_ticket_without_its_seat_is_refused(rt: HostRuntime) -> Result<(), Fail> {
 // The seat of a closed snapshot is used again under the next serial number.
 #[test]
 fn a_seat_is_used_again_under_a_new_number(rt: HostRuntime) -> Result<(), Fail> {
-    let mut other = group_of_two(&rt);
-    let mut group = group_of_two(&rt);
+    let mut other = group_of_two()?;
+    let mut group = group_of_two()?;
     let first = group.open_snapshot(0, 0);
     let first = close_opened(&mut group, first);
     let again = group.open_snapshot(0, 0);
@@ -92,26 +91,32 @@ fn a_seat_is_used_again_under_a_new_number(rt: HostRuntime) -> Result<(), Fail> 
     Ok(())
 }
 
+// A later version, which the whole site has stable. Answers how many versions were dropped.
+fn put_later(group: &mut Group<Hybrid, Each>) -> Result<usize, Refusal> {
+    group.put(0, 1, 1, 20)?;
+    group.deliver(0, 1, 0)?;
+    group.report(0, 0)?;
+    group.stabilise(0, 0)?;
+    group.tidy(0, 0)
+}
+
 // A key with a version that site 0 has stable, and a later one after the opening.
 #[test]
 fn a_read_does_not_change(rt: HostRuntime) -> Result<(), Fail> {
-    let mut group = group_of_two(&rt);
+    let mut group = group_of_two()?;
     group.put(0, 1, 1, 10)?;
     group.report(0, 0)?;
     group.stabilise(0, 0)?;
-    let (before, after, closed) = match group.open_snapshot(0, 0) {
+    let (before, later, after, closed) = match group.open_snapshot(0, 0) {
         Ok(ticket) => {
             let before = amount(group.read(&ticket, 1));
-            let _ = group.put(0, 1, 1, 20);
-            let _ = group.deliver(0, 1, 0);
-            let _ = group.report(0, 0);
-            let _ = group.stabilise(0, 0);
-            let _ = group.tidy(0, 0);
+            let later = put_later(&mut group);
             let after = amount(group.read(&ticket, 1));
-            (before, after, group.close(ticket).err())
+            (before, later, after, group.close(ticket).err())
         }
-        Err(why) => (Err(why), Err(why), Some(why)),
+        Err(why) => (Err(why), Err(why), Err(why), Some(why)),
     };
+    assert_eq!(rt; later, Ok(0));
     assert_eq!(rt; before, Ok(Some(10)));
     assert_eq!(rt; after, Ok(Some(10)));
     assert_eq!(rt; closed, None);

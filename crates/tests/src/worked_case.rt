@@ -15,7 +15,7 @@ use std::test::Fail;
 // What session 1 is shown of the percentage, before its basis has come, before the other site has gone on, and at the
 // end, with the basis.
 #[derive(Drop)]
-struct Sights {
+struct Amounts {
     overtaken: Option<u32>,
     waiting: Option<u32>,
     percent: Option<u32>,
@@ -50,11 +50,7 @@ fn with_basis<C: ClockRule, K: MarkKind>() -> Result<Group<C, K>, Refusal> {
     Ok(group)
 }
 
-fn run_worked_case<C: ClockRule, K: MarkKind>() -> Result<Sights, Refusal> {
-    run_on(with_basis::<C, K>()?)
-}
-
-fn run_on<C: ClockRule, K: MarkKind>(mut group: Group<C, K>) -> Result<Sights, Refusal> {
+fn run_worked_case<C: ClockRule, K: MarkKind>(mut group: Group<C, K>) -> Result<Amounts, Refusal> {
     let _ = group.put(0, 3, 2, 1_200);
     let _ = group.deliver(0, 1, 1);
     let overtaken = amount(group.get(1, 3)?);
@@ -66,7 +62,7 @@ fn run_on<C: ClockRule, K: MarkKind>(mut group: Group<C, K>) -> Result<Sights, R
     stabilise(&mut group)?;
     let percent = amount(group.get(1, 3)?);
     let basis = amount(group.get(1, 2)?);
-    Ok(Sights {
+    Ok(Amounts {
         overtaken,
         waiting,
         percent,
@@ -74,18 +70,18 @@ fn run_on<C: ClockRule, K: MarkKind>(mut group: Group<C, K>) -> Result<Sights, R
     })
 }
 
-fn check_sights(rt: &impl Abort, sights: Sights, percent: Option<u32>, basis: Option<u32>) {
-    assert_eq!(rt; sights.overtaken, None);
-    assert_eq!(rt; sights.waiting, None);
-    assert_eq!(rt; sights.percent, percent);
-    assert_eq!(rt; sights.basis, basis);
+fn check_amounts(rt: &impl Abort, amounts: Amounts, percent: Option<u32>, basis: Option<u32>) {
+    assert_eq!(rt; amounts.overtaken, None);
+    assert_eq!(rt; amounts.waiting, None);
+    assert_eq!(rt; amounts.percent, percent);
+    assert_eq!(rt; amounts.basis, basis);
 }
 
 #[test]
 fn hybrid_with_a_stamp_for_each_site(rt: HostRuntime) -> Result<(), Fail> {
-    check_sights(
+    check_amounts(
         &rt,
-        run_worked_case::<Hybrid, Each>()?,
+        run_worked_case::<Hybrid, Each>(with_basis()?)?,
         Some(1_200),
         Some(1),
     );
@@ -95,24 +91,26 @@ fn hybrid_with_a_stamp_for_each_site(rt: HostRuntime) -> Result<(), Fail> {
 // One stamp for all sites waits for the other site's own clock as well.
 #[test]
 fn hybrid_with_one_stamp(rt: HostRuntime) -> Result<(), Fail> {
-    check_sights(&rt, run_worked_case::<Hybrid, One>()?, None, None);
+    check_amounts(
+        &rt,
+        run_worked_case::<Hybrid, One>(with_basis()?)?,
+        None,
+        None,
+    );
     Ok(())
 }
 
 // The clock of partition 1 was never told a time, so a raw put there is early.
 #[test]
 fn raw_with_a_stamp_for_each_site(rt: HostRuntime) -> Result<(), Fail> {
-    let mut group = match with_basis::<Raw, Each>() {
-        Ok(group) => group,
-        Err(why) => return Err(why.into()),
-    };
+    let mut group = with_basis::<Raw, Each>()?;
     assert_eq!(rt; group.put(0, 3, 2, 1_200).err(), Some(Refusal::Early));
-    check_sights(&rt, run_on(group)?, None, None);
+    check_amounts(&rt, run_worked_case(group)?, None, None);
     Ok(())
 }
 
 #[test]
 fn raw_with_one_stamp(rt: HostRuntime) -> Result<(), Fail> {
-    check_sights(&rt, run_worked_case::<Raw, One>()?, None, None);
+    check_amounts(&rt, run_worked_case::<Raw, One>(with_basis()?)?, None, None);
     Ok(())
 }
