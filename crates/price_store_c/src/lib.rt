@@ -4,7 +4,7 @@
 ghost use Rattle.std.specs.Prelude.{◌≡◌, ℕ, pos, take};
 ghost use Rattle.stamps.specs.Clocks.{raw as raw_rule, hybrid as hybrid_rule};
 ghost use Rattle.stamps.specs.Outside.{stamp_from, signed_number};
-ghost use Rattle.script.specs.Laws.{ListingLaw};
+ghost use Rattle.script.specs.Laws.{IsListing};
 ghost use Rattle.script.specs.Scripts.{listing_into};
 ghost use Rattle.price_store_c.specs.Signed.{with_number};
 
@@ -34,7 +34,7 @@ pub extern "C" fn hybrid_stamp(last: u64, reading: u64, dependency: u64) -> i64
 #[unsafe(no_mangle)]
 pub extern "C" fn price_listing(script: &[u8], buffer: &mut [u8]) -> i64
     ensures value { (result, buffer.new) ≡ with_number (listing_into script.now buffer.old) }
-    ensures law { (len : ℕ) → result ≡ pos len → ListingLaw script.now (take len buffer.new) }
+    ensures law { (len : ℕ) → result ≡ pos len → IsListing script.now (take len buffer.new) }
 {
     match list_into(script, buffer) {
         Ok(len) => len as i64,

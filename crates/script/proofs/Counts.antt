@@ -12,24 +12,24 @@ use Rattle.script.specs.Commands.{read_command}
 use Rattle.script.proofs.Shorter.{read_shorter}
 use Rattle.script.specs.declared.choice.Clock.{Clock}
 use Rattle.script.specs.declared.choice.Marks.{Marks}
-use Rattle.script.specs.Counting.{goes_on, left_after, left_by}
-use Rattle.script.specs.Scripts.{ScriptState, begun, lines_after, lines_from, next_at, numbered, stepped, stepped_by, stepped_to}
-use Rattle.script.proofs.Stepping.{begun_within, length_begun}
-use Rattle.script.specs.Stores.{Store, unmade, made, clock_of, marks_of, made_store, obeyed, done_if_made}
+use Rattle.script.specs.Counting.{goes_on, rest_after, rest_of_read}
+use Rattle.script.specs.Scripts.{ScriptState, new_script, lines_after, lines_from, next_at, counted_line, next_answer, after_read, after_obey}
+use Rattle.script.proofs.Stepping.{new_script_within, length-new_script}
+use Rattle.script.specs.ScriptGroups.{ScriptGroup, no_group, some_group, clock_of, marks_of, make_group, obey, answer_of_making}
 
 -- whether a group was made
-abbrev pub is_made : Store → Bool
-is_made unmade = false
-is_made (made clock marks g) = true
+abbrev pub is_made : ScriptGroup → Bool
+is_made no_group = false
+is_made (some_group clock marks g) = true
 
 -- how many lines follow, at most n of them
 abbrev pub count_from : ℕ → Bool → List ℕ → ℕ
 count_from zero m bytes = 0
 count_from (suc n) m [] = 0
-count_from (suc n) m (b ∷ bytes) = suc (count_from n true (left_after m (b ∷ bytes)))
+count_from (suc n) m (b ∷ bytes) = suc (count_from n true (rest_after m (b ∷ bytes)))
 
 -- what goes on after a command: nothing is left, or a group was made
-abbrev pub GoesOnMade : ScriptState Store → Type 0
+abbrev pub GoesOnMade : ScriptState ScriptGroup → Type 0
 GoesOnMade s = (n : ℕ) → count_from n (is_made s.group) s.rest ≡ count_from n true s.rest
 
 none_left : (m : Bool) (n : ℕ) → count_from n m [] ≡ count_from n true []
@@ -37,63 +37,63 @@ none_left m zero = refl
 none_left m (suc n) = refl
 
 -- what a group is made of, if one is made
-abbrev MadeOr : Result Store Refusal → Type 0
+abbrev MadeOr : Result ScriptGroup Refusal → Type 0
 MadeOr (Ok s) = is_made s ≡ true
 MadeOr (Err why) = Unit {0}
 
-with_made : {A : Type 0} (r : Result A Refusal) (f : A → Result Store Refusal) → ((x : A) → MadeOr (f x)) → MadeOr (and_then r f)
+with_made : {A : Type 0} (r : Result A Refusal) (f : A → Result ScriptGroup Refusal) → ((x : A) → MadeOr (f x)) → MadeOr (and_then r f)
 with_made (Ok x) f h = h x
 with_made (Err why) f h = tt
 
-made_or : (command : Command) → MadeOr (made_store command)
+made_or : (command : Command) → MadeOr (make_group command)
 made_or (Layout sites partitions clock marks) =
     with_made (checked_counts sites partitions) _ (λ counts. with_made (clock_of clock) _ (λ rule. with_made (marks_of marks) _ (λ kind. refl)))
 made_or command = tt
 
 -- what a step leaves is what the commands alone leave
-pub record Follows (left : List ℕ) (after : ScriptState Store) : Type 0 where
+pub record Follows (left : List ℕ) (after : ScriptState ScriptGroup) : Type 0 where
   pub rest : after.rest ≡ left
   pub goes_on_lem : GoesOnMade after
 
-first_follows : (s : ScriptState Store) (rest : List ℕ) (m : Result Store Refusal) → MadeOr m → Follows (cond (is_ok m) rest []) (stepped_to s rest (done_if_made m)).1
+first_follows : (s : ScriptState ScriptGroup) (rest : List ℕ) (m : Result ScriptGroup Refusal) → MadeOr m → Follows (cond (is_ok m) rest []) (after_obey s rest (answer_of_making m)).1
 first_follows s rest (Err why) h = record { rest = refl; goes_on_lem = none_left false }
-first_follows s rest (Ok unmade) h = absurd cc
-first_follows s rest (Ok (made clock marks g)) h = record { rest = refl; goes_on_lem = λ n. refl }
+first_follows s rest (Ok no_group) h = absurd cc
+first_follows s rest (Ok (some_group clock marks g)) h = record { rest = refl; goes_on_lem = λ n. refl }
 
-made_follows : (s : ScriptState Store) (rest : List ℕ) (clock : Clock) (marks : Marks) (g : GroupState) (command : Command)
-    → Follows (cond (goes_on true command) rest []) (stepped_to s rest (obeyed (made clock marks g) command)).1
+made_follows : (s : ScriptState ScriptGroup) (rest : List ℕ) (clock : Clock) (marks : Marks) (g : GroupState) (command : Command)
+    → Follows (cond (goes_on true command) rest []) (after_obey s rest (obey (some_group clock marks g) command)).1
 made_follows s rest clock marks g (Layout sites partitions c m) = record { rest = refl; goes_on_lem = λ n. refl }
 made_follows s rest clock marks g command = record { rest = refl; goes_on_lem = λ n. refl }
 
-pub step_follows : (s : ScriptState Store) → Follows (left_after (is_made s.group) s.rest) (stepped obeyed s).1
+pub step_follows : (s : ScriptState ScriptGroup) → Follows (rest_after (is_made s.group) s.rest) (next_answer obey s).1
 step_follows s = by_read (read_command s.rest)
   where
-    obeys : (st : Store) (command : Command) (rest : List ℕ) → Follows (cond (goes_on (is_made st) command) rest []) (stepped_to s rest (obeyed st command)).1
-    obeys unmade command rest = first_follows s rest (made_store command) (made_or command)
-    obeys (made clock marks g) command rest = made_follows s rest clock marks g command
+    obeys : (st : ScriptGroup) (command : Command) (rest : List ℕ) → Follows (cond (goes_on (is_made st) command) rest []) (after_obey s rest (obey st command)).1
+    obeys no_group command rest = first_follows s rest (make_group command) (made_or command)
+    obeys (some_group clock marks g) command rest = made_follows s rest clock marks g command
 
-    by_read : (r : Result (Command × List ℕ) Refusal) → Follows (left_by (is_made s.group) r) (stepped_by obeyed s r).1
+    by_read : (r : Result (Command × List ℕ) Refusal) → Follows (rest_of_read (is_made s.group) r) (after_read obey s r).1
     by_read (Err why) = record { rest = refl; goes_on_lem = λ n. none_left (is_made s.group) n }
     by_read (Ok (command, rest)) = obeys s.group command rest
 
 -- the listing has as many lines as the commands alone say
-pub lines_count : (n : ℕ) (s : ScriptState Store) → length (lines_from n s) ≡ count_from n (is_made s.group) s.rest
+pub lines_count : (n : ℕ) (s : ScriptState ScriptGroup) → length (lines_from n s) ≡ count_from n (is_made s.group) s.rest
 lines_count zero s = refl
 lines_count (suc n) s = by_rest s.rest refl (lines_count n)
   where
-    by_rest : (bytes : List ℕ) → s.rest ≡ bytes → ((after : ScriptState Store) → length (lines_from n after) ≡ count_from n (is_made after.group) after.rest)
-        → length (lines_after (lines_from n) (next_at obeyed s bytes)) ≡ count_from (suc n) (is_made s.group) bytes
+    by_rest : (bytes : List ℕ) → s.rest ≡ bytes → ((after : ScriptState ScriptGroup) → length (lines_from n after) ≡ count_from n (is_made after.group) after.rest)
+        → length (lines_after (lines_from n) (next_at obey s bytes)) ≡ count_from (suc n) (is_made s.group) bytes
     by_rest [] e more = refl
     by_rest (b ∷ bytes) e more =
-        let after = (numbered b (stepped obeyed s)).1 in
+        let after = (counted_line b (next_answer obey s)).1 in
         let f = step_follows s in
-        ap (λ k. suc k) (more after ∙ f.goes_on_lem n ∙ ap (count_from n true) (f.rest ∙ ap (left_after (is_made s.group)) e))
+        ap (λ k. suc k) (more after ∙ f.goes_on_lem n ∙ ap (count_from n true) (f.rest ∙ ap (rest_after (is_made s.group)) e))
 
 -- what is left after a command is shorter
-pub left_shorter : (m : Bool) (bytes : List ℕ) → 0 < length bytes → length (left_after m bytes) < length bytes
-left_shorter m bytes some = by_read (read_command bytes) refl
+pub rest_shorter : (m : Bool) (bytes : List ℕ) → 0 < length bytes → length (rest_after m bytes) < length bytes
+rest_shorter m bytes some = by_read (read_command bytes) refl
   where
-    by_read : (r : Result (Command × List ℕ) Refusal) → r ≡ read_command bytes → length (left_by m r) < length bytes
+    by_read : (r : Result (Command × List ℕ) Refusal) → r ≡ read_command bytes → length (rest_of_read m r) < length bytes
     by_read (Err why) e = some
     by_read (Ok (command, rest)) e = cond_both (goes_on m command) rest [] (λ left. length left < length bytes) (λ _. read_shorter bytes (command, rest) e) (λ _. some)
 
@@ -106,16 +106,16 @@ count_enough (suc n) zero m [] hn hk = refl
 count_enough (suc n) zero m (b ∷ bytes) hn hk = absurd (omega arith)
 count_enough (suc n) (suc k) m [] hn hk = refl
 count_enough (suc n) (suc k) m (b ∷ bytes) hn hk =
-    let less = left_shorter m (b ∷ bytes) (omega arith) in
-    ap (λ c. suc c) (count_enough n k true (left_after m (b ∷ bytes)) (omega arith) (omega arith))
+    let less = rest_shorter m (b ∷ bytes) (omega arith) in
+    ap (λ c. suc c) (count_enough n k true (rest_after m (b ∷ bytes)) (omega arith) (omega arith))
 
 -- one command more
-pub count_turn : (m : Bool) (bytes left : List ℕ) → 0 < length bytes → left ≡ left_after m bytes → count_from (length bytes) m bytes ≡ count_from (length left) true left + 1
+pub count_turn : (m : Bool) (bytes left : List ℕ) → 0 < length bytes → left ≡ rest_after m bytes → count_from (length bytes) m bytes ≡ count_from (length left) true left + 1
 count_turn m [] left some e = absurd (omega arith)
 count_turn m (b ∷ bytes) left some e =
-    let less = left_shorter m (b ∷ bytes) some in
+    let less = rest_shorter m (b ∷ bytes) some in
     let same = ap length e in
-    let enough = count_enough (length bytes) (length left) true (left_after m (b ∷ bytes)) (omega arith) (omega arith) in
+    let enough = count_enough (length bytes) (length left) true (rest_after m (b ∷ bytes)) (omega arith) (omega arith) in
     omega (arith, enough, ap (count_from (length left) true) e)
 
 -- no more lines than bytes
@@ -123,8 +123,8 @@ pub count_few : (n : ℕ) (m : Bool) (bytes : List ℕ) → count_from n m bytes
 count_few zero m bytes = omega arith
 count_few (suc n) m [] = omega arith
 count_few (suc n) m (b ∷ bytes) =
-    let less = left_shorter m (b ∷ bytes) (omega arith) in
-    let few = count_few n true (left_after m (b ∷ bytes)) in
+    let less = rest_shorter m (b ∷ bytes) (omega arith) in
+    let few = count_few n true (rest_after m (b ∷ bytes)) in
     omega arith
 
 -- nothing follows nothing
@@ -133,17 +133,17 @@ count_none m [] e = refl
 count_none m (b ∷ bytes) e = absurd (omega arith)
 
 -- a script has no more lines than bytes
-pub lines_few : (bytes : List ℕ) → length (lines_from (length bytes) (begun bytes)) ≤ length bytes
+pub lines_few : (bytes : List ℕ) → length (lines_from (length bytes) (new_script bytes)) ≤ length bytes
 lines_few bytes =
-    let count = lines_count (length bytes) (begun bytes) in
-    let few = count_few (length bytes) false (begun bytes).rest in
-    let within = begun_within bytes in
+    let count = lines_count (length bytes) (new_script bytes) in
+    let few = count_few (length bytes) false (new_script bytes).rest in
+    let within = new_script_within bytes in
     omega arith
 
 -- and no more than 65,535
-pub lines_most : (bytes : List ℕ) → length (lines_from (length bytes) (begun bytes)) ≤ 65535
+pub lines_most : (bytes : List ℕ) → length (lines_from (length bytes) (new_script bytes)) ≤ 65535
 lines_most bytes =
-    let count = lines_count (length bytes) (begun bytes) in
-    let few = count_few (length bytes) false (begun bytes).rest in
-    let most = length_begun bytes in
+    let count = lines_count (length bytes) (new_script bytes) in
+    let few = count_few (length bytes) false (new_script bytes).rest in
+    let most = length-new_script bytes in
     omega arith

@@ -4,50 +4,50 @@ use borrow.Rule.Slice.PartMut.{put_mid}
 use lib.Seq.{drop-drop}
 use Rattle.std.proofs.lemmas.List.{append_assoc, append-nil, drop_all, drop_at, length-append, length-drop, length-take-le, take_at, take_rest}
 use Rattle.stamps.specs.declared.refusal.Refusal.{Refusal}
-use Rattle.script.specs.Scripts.{ScriptState, begun, lines_of, lines_after, lines_from, next, next_at, numbered, placed, stepped}
-use Rattle.script.specs.Stores.{Store, obeyed}
-use Rattle.script.proofs.Counts.{left_shorter, step_follows, is_made}
-use Rattle.script.proofs.Stepping.{begun_within}
+use Rattle.script.specs.Scripts.{ScriptState, new_script, lines_of, lines_after, lines_from, next, next_at, counted_line, line_into, next_answer}
+use Rattle.script.specs.ScriptGroups.{ScriptGroup, obey}
+use Rattle.script.proofs.Counts.{rest_shorter, step_follows, is_made}
+use Rattle.script.proofs.Stepping.{new_script_within}
 
 -- all lines that follow
-abbrev pub lines_left : ScriptState Store → List (List ℕ)
+abbrev pub lines_left : ScriptState ScriptGroup → List (List ℕ)
 lines_left s = lines_from (length s.rest) s
 
-next_none : (s : ScriptState Store) → length s.rest ≡ 0 → next obeyed s ≡ None
+next_none : (s : ScriptState ScriptGroup) → length s.rest ≡ 0 → next obey s ≡ None
 next_none s h = go s.rest h
   where
-    go : (bytes : List ℕ) → length bytes ≡ 0 → next_at obeyed s bytes ≡ None
+    go : (bytes : List ℕ) → length bytes ≡ 0 → next_at obey s bytes ≡ None
     go [] e = refl
     go (b ∷ bytes) e = absurd (omega arith)
 
 -- after the next line fewer bytes are left
-pub next_shorter : (s after : ScriptState Store) (line : List ℕ) → next obeyed s ≡ Some (line, after) → length after.rest < length s.rest
+pub next_shorter : (s after : ScriptState ScriptGroup) (line : List ℕ) → next obey s ≡ Some (line, after) → length after.rest < length s.rest
 next_shorter s after line e = go s.rest refl e
   where
-    go : (bytes : List ℕ) → s.rest ≡ bytes → next_at obeyed s bytes ≡ Some (line, after) → length after.rest < length s.rest
+    go : (bytes : List ℕ) → s.rest ≡ bytes → next_at obey s bytes ≡ Some (line, after) → length after.rest < length s.rest
     go [] is e' = absurd cc
     go (b ∷ bytes) is e' =
         let f = step_follows s in
-        let same : numbered b (stepped obeyed s) ≡ (line, after) = cc in
-        let rest : (stepped obeyed s).1.rest ≡ after.rest = ap (λ (o : List ℕ × ScriptState Store). o.1.rest) same in
-        let less = left_shorter (is_made s.group) s.rest (rw is (omega arith)) in
+        let same : counted_line b (next_answer obey s) ≡ (line, after) = cc in
+        let rest : (next_answer obey s).1.rest ≡ after.rest = ap (λ (o : List ℕ × ScriptState ScriptGroup). o.1.rest) same in
+        let less = rest_shorter (is_made s.group) s.rest (rw is (omega arith)) in
         omega (arith, ap length rest, ap length f.rest)
 
 -- any number that is not below the number of bytes gives the same lines
-pub lines_enough : (n m : ℕ) (s : ScriptState Store) → length s.rest ≤ n → length s.rest ≤ m → lines_from n s ≡ lines_from m s
+pub lines_enough : (n m : ℕ) (s : ScriptState ScriptGroup) → length s.rest ≤ n → length s.rest ≤ m → lines_from n s ≡ lines_from m s
 lines_enough zero zero s hn hm = refl
 lines_enough zero (suc m) s hn hm = sym (ap (lines_after (lines_from m)) (next_none s (omega arith)))
 lines_enough (suc n) zero s hn hm = ap (lines_after (lines_from n)) (next_none s (omega arith))
 lines_enough (suc n) (suc m) s hn hm =
-    go (next obeyed s) refl (λ line t e. let less = next_shorter s t line e in lines_enough n m t (omega arith) (omega arith))
+    go (next obey s) refl (λ line t e. let less = next_shorter s t line e in lines_enough n m t (omega arith) (omega arith))
   where
-    go : (o : Option (List ℕ × ScriptState Store)) → next obeyed s ≡ o → ((line : List ℕ) (t : ScriptState Store) → next obeyed s ≡ Some (line, t) → lines_from n t ≡ lines_from m t)
+    go : (o : Option (List ℕ × ScriptState ScriptGroup)) → next obey s ≡ o → ((line : List ℕ) (t : ScriptState ScriptGroup) → next obey s ≡ Some (line, t) → lines_from n t ≡ lines_from m t)
         → lines_after (lines_from n) o ≡ lines_after (lines_from m) o
     go None e more = refl
     go (Some (line, t)) e more = ap (λ rest. line ∷ rest) (more line t e)
 
 -- the lines that follow, when the next one is known
-pub lines_turn : (s after : ScriptState Store) (line : List ℕ) → next obeyed s ≡ Some (line, after) → lines_left s ≡ line ∷ lines_left after
+pub lines_turn : (s after : ScriptState ScriptGroup) (line : List ℕ) → next obey s ≡ Some (line, after) → lines_left s ≡ line ∷ lines_left after
 lines_turn s after line e = go (length s.rest) refl
   where
     go : (n : ℕ) → length s.rest ≡ n → lines_from n s ≡ line ∷ lines_left after
@@ -57,7 +57,7 @@ lines_turn s after line e = go (length s.rest) refl
         ap (lines_after (lines_from n)) e ∙ ap (λ more. line ∷ more) (lines_enough n (length after.rest) after (omega arith) (omega arith))
 
 -- where no bytes are left, no lines follow
-pub lines_none : (s : ScriptState Store) → length s.rest ≡ 0 → lines_left s ≡ []
+pub lines_none : (s : ScriptState ScriptGroup) → length s.rest ≡ 0 → lines_left s ≡ []
 lines_none s e = go (length s.rest) e
   where
     go : (n : ℕ) → n ≡ 0 → lines_from n s ≡ []
@@ -65,28 +65,28 @@ lines_none s e = go (length s.rest) e
     go (suc n) h = absurd (omega arith)
 
 -- the lines of a script are those that follow at its beginning
-pub lines_begun : (bytes : List ℕ) → lines_left (begun bytes) ≡ lines_of bytes
-lines_begun bytes = lines_enough (length (begun bytes).rest) (length bytes) (begun bytes) (omega arith) (begun_within bytes)
+pub lines_new : (bytes : List ℕ) → lines_left (new_script bytes) ≡ lines_of bytes
+lines_new bytes = lines_enough (length (new_script bytes).rest) (length bytes) (new_script bytes) (omega arith) (new_script_within bytes)
 
 -- a line was written: the line that came, and where it stands
-pub record LineCame (s after : ScriptState Store) (len : ℕ) (part left : List ℕ) : Type 0 where
+pub record LineCame (s after : ScriptState ScriptGroup) (len : ℕ) (part left : List ℕ) : Type 0 where
   pub line : List ℕ
-  pub comes : next obeyed s ≡ Some (line, after)
+  pub comes : next obey s ≡ Some (line, after)
   pub long : len ≡ length line
   pub stands : left ≡ line ++ drop len part
 
-pub line_came : (s after : ScriptState Store) (len : ℕ) (part left : List ℕ) → (Ok (Some len), after, left) ≡ placed s part (next obeyed s) → LineCame s after len part left
-line_came s after len part left e = go (next obeyed s) refl e
+pub line_came : (s after : ScriptState ScriptGroup) (len : ℕ) (part left : List ℕ) → (Ok (Some len), after, left) ≡ line_into s part (next obey s) → LineCame s after len part left
+line_came s after len part left e = go (next obey s) refl e
   where
-    go : (o : Option (List ℕ × ScriptState Store)) → next obeyed s ≡ o → (Ok (Some len), after, left) ≡ placed s part o → LineCame s after len part left
+    go : (o : Option (List ℕ × ScriptState ScriptGroup)) → next obey s ≡ o → (Ok (Some len), after, left) ≡ line_into s part o → LineCame s after len part left
     go None is e' =
-        let answer = ap (λ (w : Result (Option ℕ) Refusal × ScriptState Store × List ℕ). w.0) e' in
+        let answer = ap (λ (w : Result (Option ℕ) Refusal × ScriptState ScriptGroup × List ℕ). w.0) e' in
         absurd cc
     go (Some (line, t)) is e' =
-        let answer = ap (λ (w : Result (Option ℕ) Refusal × ScriptState Store × List ℕ). w.0) e' in
+        let answer = ap (λ (w : Result (Option ℕ) Refusal × ScriptState ScriptGroup × List ℕ). w.0) e' in
         let long : len ≡ length line = cc in
-        let same : after ≡ t = ap (λ (w : Result (Option ℕ) Refusal × ScriptState Store × List ℕ). w.1) e' in
-        let text : left ≡ line ++ drop (length line) part = ap (λ (w : Result (Option ℕ) Refusal × ScriptState Store × List ℕ). w.2) e' in
+        let same : after ≡ t = ap (λ (w : Result (Option ℕ) Refusal × ScriptState ScriptGroup × List ℕ). w.1) e' in
+        let text : left ≡ line ++ drop (length line) part = ap (λ (w : Result (Option ℕ) Refusal × ScriptState ScriptGroup × List ℕ). w.2) e' in
         record {
           line = line;
           comes = is ∙ ap (λ x. Some (line, x)) (sym same);
@@ -118,10 +118,10 @@ put_drop buffer line left end len k within room long stands =
     ap (drop (end + len)) (put_at buffer line left end len k within room long stands) ∙ drop_at (take end buffer ++ line) (drop (end + len) buffer) (end + len) (omega arith)
 
 -- where bytes are left, a line follows
-pub lines_some : (s : ScriptState Store) → 0 < length s.rest → 1 ≤ length (lines_left s)
+pub lines_some : (s : ScriptState ScriptGroup) → 0 < length s.rest → 1 ≤ length (lines_left s)
 lines_some s some = go (length s.rest) refl
   where
-    by_rest : (n : ℕ) (bytes : List ℕ) → 0 < length bytes → 1 ≤ length (lines_after (lines_from n) (next_at obeyed s bytes))
+    by_rest : (n : ℕ) (bytes : List ℕ) → 0 < length bytes → 1 ≤ length (lines_after (lines_from n) (next_at obey s bytes))
     by_rest n [] h = absurd (omega arith)
     by_rest n (b ∷ bytes) h = omega arith
 

@@ -1,26 +1,36 @@
 -- Numbers of two, four and six bytes, and their bytes.
 use Rattle.std.proofs.Common.{◌≡◌, ℕ, zero, suc, ◌+◌, ◌*◌, ◌^◌, ◌<◌, List, [], ◌∷◌, drop, refl, ap, arith}
+use Rattle.std.specs.Prelude.{All, slice_index}
+use Rattle.std.proofs.lemmas.List.Elements.{All-cons, All-nil}
 use Rattle.std.proofs.lemmas.Nat.{be_bytes_2, be_bytes_4, be_bytes_8}
 use Rattle.std.specs.Int.{byte_at, bytes_high_first}
-use Rattle.script.specs.Commands.{one}
-use Rattle.script.specs.Writing.{Bytes}
+use Rattle.script.specs.Commands.{u8_at}
+use Rattle.script.specs.Writing.{IsByte}
 
 -- each number of a list is a byte, one by one
 abbrev pub AreBytes : List ℕ → Type 0
 AreBytes [] = Unit {0}
-AreBytes (b ∷ bs) = (b < 2 ^ 8) × AreBytes bs
+AreBytes (b ∷ bs) = IsByte b × AreBytes bs
 
-pub each_byte : (bs : List ℕ) → AreBytes bs → Bytes bs
+-- each number of a list is a byte, by its place; past its end there is 0
+abbrev pub BytesAt : List ℕ → Type 0
+BytesAt bytes = (i : ℕ) → IsByte (slice_index bytes i)
+
+pub each_byte : (bs : List ℕ) → AreBytes bs → BytesAt bs
 each_byte [] h i = omega arith
 each_byte (b ∷ bs) h zero = h.0
 each_byte (b ∷ bs) h (suc i) = each_byte bs h.1 i
 
+pub all_bytes : (bs : List ℕ) → AreBytes bs → All IsByte bs
+all_bytes [] h = All-nil IsByte
+all_bytes (b ∷ bs) h = All-cons IsByte b bs h.0 (all_bytes bs h.1)
+
 -- n numbers of a list, from a place on
 abbrev pub items : List ℕ → ℕ → ℕ → List ℕ
 items bytes i zero = []
-items bytes i (suc n) = one bytes i ∷ items bytes (i + 1) n
+items bytes i (suc n) = u8_at bytes i ∷ items bytes (i + 1) n
 
-pub items_bytes : (bytes : List ℕ) (i n : ℕ) → Bytes bytes → AreBytes (items bytes i n)
+pub items_bytes : (bytes : List ℕ) (i n : ℕ) → BytesAt bytes → AreBytes (items bytes i n)
 items_bytes bytes i zero h = tt
 items_bytes bytes i (suc n) h = (h i, items_bytes bytes (i + 1) n h)
 

@@ -1,5 +1,5 @@
--- Answers, and what is printed of each.
-use Rattle.std.specs.Prelude.{ℕ, List, ◌++◌, ℤ, Some, None, Ok, Err, Option, Result, codes, decimal}
+-- What is printed of each answer.
+use Rattle.std.specs.Prelude.{ℕ, List, ◌++◌, Some, None, Ok, Err, Option, Result, codes, decimal}
 use Rattle.std.specs.Fmt.{signed_decimal}
 use Rattle.stamps.specs.declared.refusal.Refusal.{Refusal}
 use Rattle.stamps.specs.Refusals.{number_of}
@@ -11,25 +11,6 @@ use Rattle.servers.specs.declared.value.Basis.TheVariants.{Part, Sheet}
 use Rattle.group.specs.Model.Events.{Shown}
 use Rattle.script.specs.declared.answer.Answer.{Answer}
 use Rattle.script.specs.declared.answer.Answer.TheVariants as answer
-
--- an answer, by its numbers
-pub data Said : Type 0 where
-  done : Said
-  count : ℕ → Said
-  number : ℤ → Said
-  stamped : ℕ → Said
-  shown : Option Shown → Said
-  both : Result (Option Shown) Refusal → Result (Option Shown) Refusal → Said
-  refused : Refusal → Said
-
-abbrev pub said : Answer → Said
-said answer.Done = done
-said (answer.Count n) = count n
-said (answer.Number n) = number n
-said (answer.Stamped s) = stamped s
-said (answer.Shown v) = shown v
-said (answer.Both a b) = both a b
-said (answer.Refused why) = refused why
 
 -- a stamp as time.count
 abbrev pub stamp_text : ℕ → List ℕ
@@ -61,12 +42,11 @@ abbrev pub read_text : Result (Option Shown) Refusal → List ℕ
 read_text (Ok v) = shown_text v
 read_text (Err why) = refusal_text why
 
--- what is printed of an answer
-abbrev pub printed : Said → List ℕ
-printed done = codes "ok"
-printed (count n) = decimal n
-printed (number n) = signed_decimal n
-printed (stamped s) = stamp_text s
-printed (shown v) = shown_text v
-printed (both a b) = read_text a ++ codes " / " ++ read_text b
-printed (refused why) = refusal_text why
+abbrev pub answer_text : Answer → List ℕ
+answer_text answer.Done = codes "ok"
+answer_text (answer.Count n) = decimal n
+answer_text (answer.Number n) = signed_decimal n
+answer_text (answer.Stamped s) = stamp_text s
+answer_text (answer.Shown v) = shown_text v
+answer_text (answer.Both a b) = read_text a ++ codes " / " ++ read_text b
+answer_text (answer.Refused why) = refusal_text why

@@ -2,12 +2,12 @@ pub mod Commands
 pub mod Writing
 pub mod ReaderLaws
 pub mod Answers
-pub mod Steps
-pub mod Stores
+pub mod CommandCalls
+pub mod ScriptGroups
 pub mod Lines
 pub mod Scripts
 pub mod Listings
 pub mod Counting
-pub mod Kept
+pub mod Promises
 pub mod Laws
 pub mod WorkedListing

@@ -36,5 +36,5 @@ abbrev pub worked_text : List ℕ
 worked_text = concat (map (λ (row : List ℕ × List ℕ). row.1) worked_lines)
 
 -- the listing of these commands is these lines
-abbrev pub WorkedListing : Type 0
-WorkedListing = listing worked_script ≡ worked_text
+abbrev pub ListsWorkedCase : Type 0
+ListsWorkedCase = listing worked_script ≡ worked_text

@@ -1,8 +1,8 @@
-// A group of any of the clock rules and kinds of mark that are built, or none yet.
-ghost use Rattle.std.specs.Prelude.{◌≡◌, is_ok};
-ghost use Rattle.script.specs.Kept.{Keeps, KeepsOr, KeptOn};
-ghost use Rattle.script.specs.Steps.{said_or};
-ghost use Rattle.script.specs.Stores.{Store, obeyed, made_store, chosen_store, store, store_as, done_if_made, unmade};
+//! A group of any of the clock rules and kinds of mark that are built, or none yet.
+ghost use Rattle.std.specs.Prelude.{◌≡◌, is_ok, IfOk};
+ghost use Rattle.script.specs.Promises.{KeepsAll, StillKeepsAll};
+ghost use Rattle.script.specs.ScriptGroups.{ScriptGroup, answer_of_making, group_of, group_or_refusal};
+ghost use Rattle.script.specs.ScriptGroups.{make_group, no_group, obey, script_group};
 
 use crate::answer::Answer;
 use crate::choice::{Choice, Clock, Marks};
@@ -16,27 +16,33 @@ use stamps::one::One;
 use stamps::raw::Raw;
 use stamps::refusal::Refusal;
 
+/// A group of any of the clock rules and kinds of mark that are built, or none yet.
 #[derive(Drop)]
 pub enum AnyGroup {
-    // No group was made. With an `Option` around the groups each command would be copied once more.
-    Unmade,
+    /// No group was made.
+    // With an `Option` around the groups each command would be copied once more.
+    NoGroup,
+    /// The raw rule, and one stamp for all sites.
     RawOne(Group<Raw, One>),
+    /// The raw rule, and a stamp for each site.
     RawEach(Group<Raw, Each>),
+    /// The hybrid rule, and one stamp for all sites.
     HybridOne(Group<Hybrid, One>),
+    /// The hybrid rule, and a stamp for each site.
     HybridEach(Group<Hybrid, Each>),
 }
 
 impl Obeys for AnyGroup {
-    ghost State = { Store };
+    ghost State = { ScriptGroup };
 
-    ghost state = { store };
+    ghost state = { script_group };
 
-    ghost obeying = { obeyed };
+    ghost obey_gives = { obey };
 
     fn obey(&mut self, command: Command) -> Result<Answer, Refusal> {
         // The pairs are all known; a `dyn` would need memory.
         match self {
-            AnyGroup::Unmade => self.make(command),
+            AnyGroup::NoGroup => self.make(command),
             AnyGroup::RawOne(group) => perform(group, command),
             AnyGroup::RawEach(group) => perform(group, command),
             AnyGroup::HybridOne(group) => perform(group, command),
@@ -46,12 +52,13 @@ impl Obeys for AnyGroup {
 }
 
 impl AnyGroup {
-    // Does nothing. Its contract is the theorem, for whichever group it is.
+    /// Does nothing. Its contract is the theorem, for whichever group it is: calls lead to it, and it keeps the
+    /// promises from here on.
     pub fn promises(&self)
-        ensures { KeptOn (store self.now) }
+        ensures { StillKeepsAll (script_group self.now) }
     {
         match self {
-            AnyGroup::Unmade => {}
+            AnyGroup::NoGroup => {}
             AnyGroup::RawOne(group) => group.promises(),
             AnyGroup::RawEach(group) => group.promises(),
             AnyGroup::HybridOne(group) => group.promises(),
@@ -59,11 +66,12 @@ impl AnyGroup {
         }
     }
 
-    // Makes the group of the first command. It is kept out of `obey`, which would pay for its large locals at each command.
+    /// Makes the group of the first command.
+    // It is kept out of `obey`, which would pay for its large locals at each command.
     #[inline(never)]
     fn make(&mut self, command: Command) -> Result<Answer, Refusal>
-        requires { store self.old ≡ unmade }
-        ensures { (said_or result, store self.new) ≡ done_if_made (made_store command) }
+        requires { script_group self.old ≡ no_group }
+        ensures { (result, script_group self.new) ≡ answer_of_making (make_group command) }
     {
         match make_group(command) {
             Ok(made) => {
@@ -75,19 +83,19 @@ impl AnyGroup {
     }
 }
 
-// The group that a script's first command makes. From here on it keeps the promises, whichever clock rule and kind of mark
-// it has.
+/// The group that a script's first command makes. From here on it keeps the promises, whichever clock rule and kind of
+/// mark it has.
 pub(crate) fn make_group(command: Command) -> Result<AnyGroup, Refusal>
-    ensures value { store_as store result ≡ made_store command }
-    ensures promises { KeepsOr (store_as store result) }
+    ensures value { group_or_refusal script_group result ≡ make_group command }
+    ensures promises { IfOk result (λ made. KeepsAll (script_group made)) }
 {
     Ok(group_of(Choice::try_from(command)?))
 }
 
-// A new group as it was chosen.
+/// A new group as it was chosen.
 fn group_of(choice: Choice) -> AnyGroup
-    ensures value { store result ≡ chosen_store choice }
-    ensures promises { Keeps (store result) }
+    ensures value { script_group result ≡ group_of choice }
+    ensures promises { KeepsAll (script_group result) }
 {
     let layout = choice.layout;
     match (choice.clock, choice.marks) {
@@ -98,9 +106,9 @@ fn group_of(choice: Choice) -> AnyGroup
     }
 }
 
-// Whether a script's first command makes a group.
+/// Whether a script's first command makes a group.
 pub(crate) fn makes_group(command: Command) -> bool
-    ensures { result ≡ is_ok (made_store command) }
+    ensures { result ≡ is_ok (make_group command) }
 {
     Choice::try_from(command).is_ok()
 }

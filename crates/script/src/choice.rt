@@ -1,23 +1,26 @@
-// What a layout chooses: how large the group is, its clock rule and its kind of mark.
+//! What a layout chooses: how large the group is, its clock rule and its kind of mark.
 ghost use Rattle.std.specs.Prelude.{◌≡◌};
-ghost use Rattle.script.specs.Stores.{clock_of, marks_of, made_store, chosen_store, store_as};
+ghost use Rattle.script.specs.ScriptGroups.{clock_of, group_of, group_or_refusal, make_group, marks_of};
 
 use crate::command::Command;
 use group::layout::{Draft, Layout};
 use stamps::refusal::Refusal;
 
+/// A clock rule.
 #[derive(Clone, Copy)]
 pub(crate) enum Clock {
     Raw,
     Hybrid,
 }
 
+/// A kind of mark: one stamp for all sites, or a stamp for each.
 #[derive(Clone, Copy)]
 pub(crate) enum Marks {
     One,
     Each,
 }
 
+/// A checked layout, with the clock rule and the kind of mark of its group.
 #[derive(Clone, Copy)]
 pub(crate) struct Choice {
     pub(crate) layout: Layout,
@@ -59,7 +62,7 @@ impl TryFrom<char> for Marks {
 impl TryFrom<Command> for Choice {
     type Error = Refusal;
 
-    ghost try_from_gives = { λ command r. store_as chosen_store r ≡ made_store command };
+    ghost try_from_gives = { λ command r. group_or_refusal group_of r ≡ make_group command };
 
     fn try_from(command: Command) -> Result<Choice, Refusal> {
         let Command::Layout {

@@ -1,4 +1,4 @@
-// The step script: bytes to commands, commands to answers, answers to lines, a script to its listing.
+//! The step script: bytes to commands, commands to answers, answers to lines, a script to its listing.
 #![tactic(auto)]
 
 pub mod answer;
@@ -12,4 +12,5 @@ pub mod obeys;
 mod perform;
 pub mod reader;
 pub mod script;
+mod script_bytes;
 pub mod worked_case;

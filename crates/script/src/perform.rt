@@ -1,8 +1,7 @@
-// What a command does to a group.
-ghost use Rattle.std.specs.Prelude.{◌≡◌};
+//! What a command does to a group.
+ghost use Rattle.std.specs.Prelude.{◌≡◌, MatchResult};
 ghost use Rattle.group.specs.Groups.{view};
-ghost use Rattle.script.specs.Answers.{said};
-ghost use Rattle.script.specs.Steps.{performed, viewed, said_as, said_or, SaidBy};
+ghost use Rattle.script.specs.CommandCalls.{perform, view_both};
 
 use crate::answer::Answer;
 use crate::command::Command;
@@ -11,16 +10,16 @@ use stamps::clock_rule::ClockRule;
 use stamps::mark_kind::MarkKind;
 use stamps::refusal::Refusal;
 
-// A group has its layout already, so a second one ends the listing.
+/// What a command answers to a group. It has its layout already, so a second one ends the listing.
 pub(crate) fn perform<C: ClockRule, K: MarkKind>(
     group: &mut Group<C, K>,
     command: Command,
 ) -> Result<Answer, Refusal>
-    ensures { (said_or result, view group.new) ≡ performed C.ClockRule.answer K.MarkKind.kind (view group.old) command }
+    ensures { (result, view group.new) ≡ perform C.ClockRule.answer K.MarkKind.kind (view group.old) command }
 {
     let answer = match command {
         Command::Layout { .. } => return Err(Refusal::LayoutMisplaced),
-        Command::OpenSession { site } => said(
+        Command::OpenSession { site } => answer_of(
             group.open_session(site),
             |session| Answer::Count(u64::from(session)),
         ),
@@ -28,15 +27,15 @@ pub(crate) fn perform<C: ClockRule, K: MarkKind>(
             site,
             partition,
             time,
-        } => said(group.tell(site, partition, time), |()| Answer::Done),
+        } => answer_of(group.tell(site, partition, time), |()| Answer::Done),
         Command::Put {
             session,
             key,
             kind,
             amount,
-        } => said(group.put(session, key, kind, amount), Answer::Stamped),
-        Command::Get { session, key } => said(group.get(session, key), Answer::Shown),
-        Command::Heartbeat { site, partition } => said(
+        } => answer_of(group.put(session, key, kind, amount), Answer::Stamped),
+        Command::Get { session, key } => answer_of(group.get(session, key), Answer::Shown),
+        Command::Heartbeat { site, partition } => answer_of(
             group.heartbeat(site, partition),
             Answer::Stamped,
         ),
@@ -44,51 +43,56 @@ pub(crate) fn perform<C: ClockRule, K: MarkKind>(
             from,
             to,
             partition,
-        } => said(group.deliver(from, to, partition), |()| Answer::Done),
-        Command::Report { site, partition } => said(
+        } => answer_of(group.deliver(from, to, partition), |()| Answer::Done),
+        Command::Report { site, partition } => answer_of(
             group.report(site, partition),
             |()| Answer::Done,
         ),
-        Command::Stabilise { site, partition } => said(
+        Command::Stabilise { site, partition } => answer_of(
             group.stabilise(site, partition),
             |()| Answer::Done,
         ),
-        Command::Tidy { site, partition } => said(
+        Command::Tidy { site, partition } => answer_of(
             group.tidy(site, partition),
             |dropped| Answer::Count(dropped as u64),
         ),
-        Command::Lead { site, partition } => said(group.lead(site, partition), Answer::Number),
+        Command::Lead { site, partition } => answer_of(group.lead(site, partition), Answer::Number),
         Command::View {
             session,
             partition,
             first,
             second,
-        } => view_both(group, session, partition, first, second).unwrap_or_else(Answer::Refused),
+        } => view_both(group, session, partition, first, second),
     };
     Ok(answer)
 }
 
-// The answer that `say` makes of what a call gives, or its refusal.
-fn said<T, F: FnOnce(T) -> Answer>(res: Result<T, Refusal>, say: F) -> Answer
-    requires { F.IsAlwaysCallable say }
-    ensures { SaidBy (F.post say) res result }
+/// The answer that is made of what a call gives, or its refusal.
+fn answer_of<T, F: FnOnce(T) -> Answer>(res: Result<T, Refusal>, make: F) -> Answer
+    requires { F.IsAlwaysCallable make }
+    ensures { MatchResult res (λ x. F.post make x result) (λ why. result ≡ Answer.Refused why) }
 {
-    res.map_or_else(Answer::Refused, say)
+    res.map_or_else(Answer::Refused, make)
 }
 
-// A snapshot is opened, two keys are read, and it is closed.
+/// A snapshot is opened, two keys are read, and it is closed.
 fn view_both<C: ClockRule, K: MarkKind>(
     group: &mut Group<C, K>,
     session: u8,
     partition: u8,
     first: u16,
     second: u16,
-) -> Result<Answer, Refusal>
-    ensures { (said_as said result, view group.new) ≡ viewed C.ClockRule.answer K.MarkKind.kind (view group.old) session partition first second }
+) -> Answer
+    ensures { (result, view group.new) ≡
+        view_both C.ClockRule.answer K.MarkKind.kind (view group.old) session partition first second }
 {
-    let ticket = group.open_snapshot(session, partition)?;
+    let ticket = match group.open_snapshot(session, partition) {
+        Ok(ticket) => ticket,
+        Err(why) => return Answer::Refused(why),
+    };
     let first = group.read(&ticket, first);
     let second = group.read(&ticket, second);
+    // The ticket is of this group, so the closing is not refused.
     let _ = group.close(ticket);
-    Ok(Answer::Both(first, second))
+    Answer::Both(first, second)
 }

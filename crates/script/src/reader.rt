@@ -1,15 +1,18 @@
-// Bytes to commands.
+//! Bytes to commands.
 ghost use Rattle.std.specs.Prelude.{◌≡◌, ◌<◌, ◌≤◌, length, drop, IsOkAnd};
-ghost use Rattle.script.specs.Commands.{deliver_form, form_of, formed, get_form, layout_form, open_session_form, one, put_form, read_command, read_form, rested, tell_form, view_form};
-ghost use Rattle.script.specs.ReaderLaws.{ReaderLaw};
+ghost use Rattle.script.specs.Commands.{command_and_rest, read_command, read_form, read_operands, u8_at};
+ghost use Rattle.script.specs.Commands.{form_of, deliver_form, get_form, layout_form, open_session_form};
+ghost use Rattle.script.specs.Commands.{put_form, tell_form, view_form};
+ghost use Rattle.script.specs.ReaderLaws.{AnswersFirstCommand};
 
 use crate::command::Command;
 use stamps::refusal::Refusal;
 
-// The first command of a script, and what is left after it.
+/// The first command of a script, and what is left after it. Refused as `ShortCommand` if the bytes end before its last
+/// operand, and as `UnknownLetter` if no command has its letter.
 pub fn read(script: &[u8]) -> Result<(Command, &[u8]), Refusal>
-    ensures value { rested result ≡ read_command script.now }
-    ensures law { ReaderLaw script.now (rested result) }
+    ensures value { command_and_rest result ≡ read_command script.now }
+    ensures law { AnswersFirstCommand script.now (command_and_rest result) }
 {
     let [letter, rest @ ..] = script else {
         return Err(Refusal::ShortCommand);
@@ -17,9 +20,9 @@ pub fn read(script: &[u8]) -> Result<(Command, &[u8]), Refusal>
     read_operands(*letter as char, rest)
 }
 
-// The command of a letter.
+/// The command of a letter, with the operands that follow it.
 fn read_operands(letter: char, bytes: &[u8]) -> Result<(Command, &[u8]), Refusal>
-    ensures { rested result ≡ read_form (form_of letter) bytes.now }
+    ensures { command_and_rest result ≡ read_operands (form_of letter) bytes.now }
 {
     match letter {
         'L' => read_layout(bytes),
@@ -45,7 +48,7 @@ fn read_operands(letter: char, bytes: &[u8]) -> Result<(Command, &[u8]), Refusal
 }
 
 fn read_layout(bytes: &[u8]) -> Result<(Command, &[u8]), Refusal>
-    ensures { rested result ≡ formed layout_form bytes.now }
+    ensures { command_and_rest result ≡ read_form layout_form bytes.now }
 {
     let [sites, partitions, clock, marks, rest @ ..] = bytes else {
         return Err(Refusal::ShortCommand);
@@ -64,7 +67,7 @@ fn read_layout(bytes: &[u8]) -> Result<(Command, &[u8]), Refusal>
 }
 
 fn read_open_session(bytes: &[u8]) -> Result<(Command, &[u8]), Refusal>
-    ensures { rested result ≡ formed open_session_form bytes.now }
+    ensures { command_and_rest result ≡ read_form open_session_form bytes.now }
 {
     let [site, rest @ ..] = bytes else {
         return Err(Refusal::ShortCommand);
@@ -73,7 +76,7 @@ fn read_open_session(bytes: &[u8]) -> Result<(Command, &[u8]), Refusal>
 }
 
 fn read_tell(bytes: &[u8]) -> Result<(Command, &[u8]), Refusal>
-    ensures { rested result ≡ formed tell_form bytes.now }
+    ensures { command_and_rest result ≡ read_form tell_form bytes.now }
 {
     let [site, partition, a, b, c, d, e, f, rest @ ..] = bytes else {
         return Err(Refusal::ShortCommand);
@@ -91,7 +94,7 @@ fn read_tell(bytes: &[u8]) -> Result<(Command, &[u8]), Refusal>
 }
 
 fn read_put(bytes: &[u8]) -> Result<(Command, &[u8]), Refusal>
-    ensures { rested result ≡ formed put_form bytes.now }
+    ensures { command_and_rest result ≡ read_form put_form bytes.now }
 {
     let [session, key_high, key_low, kind, a, b, c, d, rest @ ..] = bytes else {
         return Err(Refusal::ShortCommand);
@@ -111,7 +114,7 @@ fn read_put(bytes: &[u8]) -> Result<(Command, &[u8]), Refusal>
 }
 
 fn read_get(bytes: &[u8]) -> Result<(Command, &[u8]), Refusal>
-    ensures { rested result ≡ formed get_form bytes.now }
+    ensures { command_and_rest result ≡ read_form get_form bytes.now }
 {
     let [session, key_high, key_low, rest @ ..] = bytes else {
         return Err(Refusal::ShortCommand);
@@ -122,7 +125,7 @@ fn read_get(bytes: &[u8]) -> Result<(Command, &[u8]), Refusal>
 }
 
 fn read_deliver(bytes: &[u8]) -> Result<(Command, &[u8]), Refusal>
-    ensures { rested result ≡ formed deliver_form bytes.now }
+    ensures { command_and_rest result ≡ read_form deliver_form bytes.now }
 {
     let [from, to, partition, rest @ ..] = bytes else {
         return Err(Refusal::ShortCommand);
@@ -139,7 +142,7 @@ fn read_deliver(bytes: &[u8]) -> Result<(Command, &[u8]), Refusal>
 }
 
 fn read_view(bytes: &[u8]) -> Result<(Command, &[u8]), Refusal>
-    ensures { rested result ≡ formed view_form bytes.now }
+    ensures { command_and_rest result ≡ read_form view_form bytes.now }
 {
     let [
         session,
@@ -167,14 +170,15 @@ fn read_view(bytes: &[u8]) -> Result<(Command, &[u8]), Refusal>
     ))
 }
 
-// A command of one server, made of the site and the partition that stand there.
+/// A command of one server, made of the site and the partition that stand there.
 fn read_server<F: FnOnce(u8, u8) -> Command>(
     bytes: &[u8],
     command: F,
 ) -> Result<(Command, &[u8]), Refusal>
     requires { F.IsAlwaysCallable command }
-    ensures short { length bytes.now < 2 → rested result ≡ Err Refusal.ShortCommand }
-    ensures read { 2 ≤ length bytes.now → IsOkAnd (rested result) (λ p. F.post command (one bytes.now 0) (one bytes.now 1) p.0 × (p.1 ≡ drop 2 bytes.now)) }
+    ensures short { length bytes.now < 2 → command_and_rest result ≡ Err Refusal.ShortCommand }
+    ensures read { 2 ≤ length bytes.now → IsOkAnd (command_and_rest result) (λ p.
+        F.post command (u8_at bytes.now 0) (u8_at bytes.now 1) p.0 × (p.1 ≡ drop 2 bytes.now)) }
 {
     let [site, partition, rest @ ..] = bytes else {
         return Err(Refusal::ShortCommand);

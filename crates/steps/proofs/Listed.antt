@@ -2,7 +2,7 @@
 use Rattle.std.proofs.Common.{◌≡◌, ℕ, List, [], ◌++◌, take, Some, None, Ok, Err, Option, Result, IfSome, OnOk, ap, subst, ◌∙◌}
 use Rattle.std.specs.Io.KnownBytes.{Appends}
 use Rattle.std.specs.Option.{option_map}
-use Rattle.script.specs.Laws.{ListingLaw}
+use Rattle.script.specs.Laws.{IsListing}
 use Rattle.script.specs.Scripts.{listing, script_of}
 use Rattle.script.proofs.FirstBytes.{law_same, listing_same}
 
@@ -23,10 +23,10 @@ listing_written (Ok x) (Some input) before after held script reads holds writes 
 
 -- and so is its law
 pub law_kept : {T E : Type 0} (result : Result T E) (known : Option (List ℕ)) (held script : List ℕ)
-    → IfSome known (λ input. held ≡ script_of input) → script ≡ held → OnOk result (ListingLaw script (listing script))
-    → OnOk result (IfSome known (λ input. ListingLaw input (listing input)))
+    → IfSome known (λ input. held ≡ script_of input) → script ≡ held → OnOk result (IsListing script (listing script))
+    → OnOk result (IfSome known (λ input. IsListing input (listing input)))
 law_kept (Err e) known held script reads holds law = tt
 law_kept (Ok x) None held script reads holds law = tt
 law_kept (Ok x) (Some input) held script reads holds law =
-    let first : ListingLaw (script_of input) (listing (script_of input)) = subst (λ bytes. ListingLaw bytes (listing bytes)) (holds ∙ reads) law in
-    subst (ListingLaw input) (listing_same input) (law_same input (listing (script_of input)) first)
+    let first : IsListing (script_of input) (listing (script_of input)) = subst (λ bytes. IsListing bytes (listing bytes)) (holds ∙ reads) law in
+    subst (IsListing input) (listing_same input) (law_same input (listing (script_of input)) first)

@@ -3,7 +3,7 @@
 
 ghost use Rattle.std.specs.Prelude.{◌≡◌, IfOk, IfSome, OnOk};
 ghost use Rattle.std.specs.Io.KnownBytes.{Appends};
-ghost use Rattle.script.specs.Laws.{ListingLaw};
+ghost use Rattle.script.specs.Laws.{IsListing};
 ghost use Rattle.script.specs.Scripts.{listing, script_of};
 
 use script::list::list;
@@ -19,7 +19,7 @@ fn main(rt: HostRuntime) -> anyhow::Result<()> {
 // Reads a script and writes its listing, and nothing else.
 fn run<R: Read, W: Write>(heap: Global, reader: &mut R, writer: &mut W) -> anyhow::Result<()>
     ensures value { OnOk result (IfSome (R.remaining reader.old) (λ input. Appends (W.contents writer.old) (W.contents writer.new) (listing input))) }
-    ensures law { OnOk result (IfSome (R.remaining reader.old) (λ input. ListingLaw input (listing input))) }
+    ensures law { OnOk result (IfSome (R.remaining reader.old) (λ input. IsListing input (listing input))) }
 {
     let script = read_script(heap, reader)?;
     write_listing(heap, &script, writer)
@@ -38,7 +38,7 @@ fn read_script<R: Read>(heap: Global, reader: &mut R) -> io::Result<Vec<u8>>
 
 fn write_listing<W: Write>(heap: Global, script: &[u8], writer: &mut W) -> anyhow::Result<()>
     ensures value { OnOk result (Appends (W.contents writer.old) (W.contents writer.new) (listing script.now)) }
-    ensures law { OnOk result (ListingLaw script.now (listing script.now)) }
+    ensures law { OnOk result (IsListing script.now (listing script.now)) }
 {
     let listing = list(heap, script)?;
     writer.write_all(&listing)?;

@@ -53,29 +53,6 @@ fn answers_are_listed(rt: HostRuntime) -> Result<(), Fail> {
 }
 
 #[test]
-fn a_first_line_needs_96_bytes(rt: HostRuntime) {
-    let mut script = Script::new(b"L\x02\x01HE");
-    let mut short = [7; 95];
-    assert_eq!(rt; script.first_line(&mut short), Err(Refusal::ShortBuffer));
-    assert_eq!(rt; short, [7; 95]);
-    let mut buffer = [7; 96];
-    assert_eq!(rt; script.first_line(&mut buffer), Ok(Some(7)));
-    assert_eq!(rt; &buffer[0..7], b"1 L ok\n".as_slice());
-    assert_eq!(rt; &buffer[7..96], [7; 89].as_slice());
-    assert_eq!(rt; script.first_line(&mut buffer), Ok(None));
-}
-
-#[test]
-fn no_bytes_have_no_line(rt: HostRuntime) {
-    let mut script = Script::new(b"");
-    let mut short = [7; 95];
-    assert_eq!(rt; script.first_line(&mut short), Err(Refusal::ShortBuffer));
-    let mut buffer = [7; 96];
-    assert_eq!(rt; script.first_line(&mut buffer), Ok(None));
-    assert_eq!(rt; buffer, [7; 96]);
-}
-
-#[test]
 fn a_next_line_needs_96_bytes(rt: HostRuntime) -> Result<(), Fail> {
     let layout = Draft {
         sites: 2,

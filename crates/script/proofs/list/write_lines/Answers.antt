@@ -1,20 +1,20 @@
 use Rattle.std.proofs.Common.{◌≡◌, ◌-◌, ◌<◌, ◌≤◌, ◌++◌, [], length, take, drop, sym, refl, ap, subst, ◌∙◌, arith}
-use Rattle.std.specs.List.{concat}
+use Rattle.std.specs.List.{All, concat}
 use Rattle.std.proofs.lemmas.Bool.{eqb-false, eqb-true}
 use Rattle.std.proofs.lemmas.List.{append_assoc, append-nil, length-take-le, take-append-drop, take_rest, length-drop}
 use Rattle.std.proofs.lemmas.List.Elements.{All-cons, All-nil}
 use lib.Seq.{drop-drop}
-use Rattle.script.specs.Laws.{EachShort, ListingLaw}
-use Rattle.script.specs.Scripts.{lines_of, listing, view}
-use Rattle.script.specs.Stores.{store}
+use Rattle.script.specs.Laws.{IsShort, IsListing}
+use Rattle.script.specs.Scripts.{lines_of, listing, script_state}
+use Rattle.script.specs.ScriptGroups.{script_group}
 use Rattle.script.proofs.Answered.{listing_law}
-use Rattle.script.proofs.LinesLeft.{line_came, lines_begun, lines_none, lines_some, lines_turn, lines_left, next_shorter, put_drop, put_take}
+use Rattle.script.proofs.LinesLeft.{line_came, lines_new, lines_none, lines_some, lines_turn, lines_left, next_shorter, put_drop, put_take}
 use Rattle.script.proofs.list.write_lines.Goals as goal
 
 -- at the beginning all lines are to come
 pub lines-init : goal.lines-init
 lines-init c =
-    let all = ap lines_left c.new-script.ensures ∙ lines_begun c.args.bytes.now in
+    let all = ap lines_left c.new-script.ensures ∙ lines_new c.args.bytes.now in
     record { written = refl; behind = refl; room = omega (arith, ap length all, c.requires); each = λ short. short; short = omega arith }
 
 -- bytes are left, so a line is to come, and there is room for it
@@ -23,15 +23,15 @@ write_next-end-requires c =
     let buffer = c.lines.buffer in
     let left = eqb-false (length c.lines.script.rest.now) 0 (sym c.lines-test.ensures) in
     let some : 0 < length c.lines.script.rest.now = omega arith in
-    let follows = lines_some (view store c.lines.script) some in
+    let follows = lines_some (script_state script_group c.lines.script) some in
     let part = ap length (take_rest buffer c.lines.end) ∙ length-drop c.lines.end buffer in
-    (omega (arith, part, follows, c.lines.invariant.room), some)
+    record { room = omega (arith, part, follows, c.lines.invariant.room); some = some }
 
 pub lines-smaller : goal.lines-smaller
 lines-smaller c =
     let buffer = c.lines.buffer in
-    let before = view store c.lines.script in
-    let after = view store c.write_next-end.new.self in
+    let before = script_state script_group c.lines.script in
+    let after = script_state script_group c.write_next-end.new.self in
     let came = line_came before after c.write_next-end.result (take (length buffer - c.lines.end) (drop c.lines.end buffer)) c.write_next-end.new.buffer c.write_next-end.ensures.value in
     next_shorter before after came.line came.comes
 
@@ -41,8 +41,8 @@ lines-preserved c =
     let end = c.lines.end in
     let len = c.write_next-end.result in
     let k = length buffer - end in
-    let before = view store c.lines.script in
-    let after = view store c.write_next-end.new.self in
+    let before = script_state script_group c.lines.script in
+    let after = script_state script_group c.write_next-end.new.self in
     let left = c.write_next-end.new.buffer in
     let within : end ≤ length buffer = omega (arith, c.lines.invariant.room) in
     let came = line_came before after len (take k (drop end buffer)) left c.write_next-end.ensures.value in
@@ -57,18 +57,18 @@ lines-preserved c =
           ∙ sym (drop-drop len end buffer) ∙ ap (drop len) c.lines.invariant.behind ∙ drop-drop len end c.args.buffer.now;
       each = λ more-short.
           let line_short : length came.line ≤ 96 = omega (arith, came.long, c.write_next-end.ensures.short) in
-          c.lines.invariant.each (subst EachShort (sym turn) (All-cons (λ line. length line ≤ 96) came.line (lines_left after) line_short more-short));
+          c.lines.invariant.each (subst (All IsShort) (sym turn) (All-cons (λ line. length line ≤ 96) came.line (lines_left after) line_short more-short));
       room = omega (arith, ap length turn, c.lines.invariant.room, c.write_next-end.ensures.short);
       short = omega (arith, ap length turn, c.lines.invariant.short, c.write_next-end.ensures.short);
     }
 
 -- at the end no lines are to come
-none_to_come : (c : goal.After-lines) → lines_left (view store c.lines.script) ≡ []
-none_to_come c = lines_none (view store c.lines.script) (eqb-true (length c.lines.script.rest.now) 0 (sym c.lines-test.ensures))
+none_to_come : (c : goal.After-lines) → lines_left (script_state script_group c.lines.script) ≡ []
+none_to_come c = lines_none (script_state script_group c.lines.script) (eqb-true (length c.lines.script.rest.now) 0 (sym c.lines-test.ensures))
 
 -- and all lines of the script were to come
-all_to_come : (c : goal.After-lines) → lines_left (view store c.new-script.result) ≡ lines_of c.args.bytes.now
-all_to_come c = ap lines_left c.new-script.ensures ∙ lines_begun c.args.bytes.now
+all_to_come : (c : goal.After-lines) → lines_left (script_state script_group c.new-script.result) ≡ lines_of c.args.bytes.now
+all_to_come c = ap lines_left c.new-script.ensures ∙ lines_new c.args.bytes.now
 
 -- so what is written is the listing
 all_written : (c : goal.After-lines) → take c.lines.end c.lines.buffer ≡ listing c.args.bytes.now
@@ -92,9 +92,9 @@ pub returns-clause-short : goal.returns-clause-short
 returns-clause-short c = omega (arith, ap length (all_to_come c), c.lines.invariant.short)
 
 -- at the end no lines are to come that could be long
-each_short : (c : goal.After-lines) → EachShort (lines_of c.args.bytes.now)
-each_short c = subst EachShort (all_to_come c) (c.lines.invariant.each (subst EachShort (sym (none_to_come c)) (All-nil (λ line. length line ≤ 96))))
+each_short : (c : goal.After-lines) → All IsShort (lines_of c.args.bytes.now)
+each_short c = subst (All IsShort) (all_to_come c) (c.lines.invariant.each (subst (All IsShort) (sym (none_to_come c)) (All-nil (λ line. length line ≤ 96))))
 
 pub returns-clause-law : goal.returns-clause-law
 returns-clause-law c =
-    subst (ListingLaw c.args.bytes.now) (sym (all_written c)) (listing_law c.args.bytes.now (λ i. let byte = c.type_inv.bytes i in omega arith) (each_short c))
+    subst (IsListing c.args.bytes.now) (sym (all_written c)) (listing_law c.args.bytes.now (λ i. let byte = c.type_inv.bytes i in omega arith) (each_short c))

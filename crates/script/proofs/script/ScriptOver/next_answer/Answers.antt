@@ -1,6 +1,6 @@
 use Rattle.std.proofs.Common.{arith}
 use Rattle.script.proofs.Shorter.{read_shorter}
-use Rattle.script.proofs.script.ScriptOver.step.Goals as goal
+use Rattle.script.proofs.script.ScriptOver.next_answer.Goals as goal
 
 pub invariant_of-self : goal.invariant_of-self
 invariant_of-self g c =
