@@ -1,10 +1,28 @@
-// The whole group: every server of every site, the sessions and the open snapshots.
+//! A group: every server of every site, the sessions and the open snapshots.
+ghost use Rattle.stamps.specs.Refusals.{RefusalKeeps};
+ghost use Rattle.group.specs.Model.Calls.{IsStep};
+ghost use Rattle.group.specs.Model.Events as call;
+ghost use Rattle.group.specs.Model.Groups.{new_group};
+ghost use Rattle.group.specs.Model.GroupStore.{group_store};
+ghost use Rattle.group.specs.Model.Promises.{KeepsPromises};
+ghost use Rattle.group.specs.Model.Reached.{StillKeeps};
+ghost use Rattle.group.specs.Groups.{view};
+ghost use Rattle.std.specs.Prelude.{◌≡◌};
+
 use crate::group_parts::GroupParts;
+use crate::layout::Layout;
+use crate::shown::Shown;
+use crate::ticket::Ticket;
 use stamps::clock_rule::ClockRule;
 use stamps::mark_kind::MarkKind;
+use stamps::refusal::Refusal;
+use stamps::stamp::Stamp;
 use std::marker::Model;
 
-// Calls lead to every group that there is, from the making of one: nothing else makes or changes a group.
+/// A group with the clock rule `C` and the kind of mark `K`.
+///
+/// Calls lead to every group that there is, from the making of one: nothing else makes or changes a group. Each call says
+/// by `IsStep` what it answers and the state that it leaves, as the model has them, and a refused call changes nothing.
 #[derive(Drop)]
 pub struct Group<C: ClockRule, K: MarkKind> {
     parts: GroupParts<C, K>,
@@ -21,7 +39,129 @@ impl<C: ClockRule, K: MarkKind> Model for Group<C, K> {
 
     ghost view = { λ g. group_record g.parts };
 
-    ghost invariant = { λ g. ∥ IsReached C.ClockRule.answer K.MarkKind.kind (parts_view g.parts) ∥₁ };
+    ghost invariant = { λ g. ∥ IsReached C.answer K.kind (parts_view g.parts) ∥₁ };
 }
 
-mod calls;
+impl<C: ClockRule, K: MarkKind> Group<C, K> {
+    /// A group with nothing in it. It takes a checked layout, so it cannot be refused. From here on it keeps the promises,
+    /// whatever calls are made.
+    pub fn new(layout: Layout) -> Self
+        ensures state { view result ≡ new_group layout.sites layout.partitions }
+        ensures promises { KeepsPromises (group_store C.answer K.kind layout.sites) (view result) }
+    {
+        Group {
+            parts: GroupParts::new(layout),
+        }
+    }
+
+    /// Does nothing. Its contract is the theorem: any group keeps the promises.
+    pub fn promises(&self)
+        ensures { ∥ StillKeeps C.answer K.kind (view self.now) ∥₁ }
+    {
+        let _ = &self.parts;
+    }
+
+    /// A new session at a site. Its number is how many were opened before it.
+    pub fn open_session(&mut self, site: u8) -> Result<u8, Refusal>
+        ensures step { IsStep C.answer K.kind (view self.old) (call.open_session site) result (view self.new) }
+        ensures keeps { RefusalKeeps result (view self.old) (view self.new) }
+    {
+        self.parts.open_session(site)
+    }
+
+    /// The physical clock of a server shows a new time.
+    pub fn tell(&mut self, site: u8, partition: u8, time: u64) -> Result<(), Refusal>
+        ensures step { IsStep C.answer K.kind (view self.old) (call.tell site partition time) result (view self.new) }
+        ensures keeps { RefusalKeeps result (view self.old) (view self.new) }
+    {
+        self.parts.tell(site, partition, time)
+    }
+
+    /// A new version of a key, made at the session's server. Its value comes as numbers, since they are judged after the
+    /// session.
+    pub fn put(&mut self, session: u8, key: u16, kind: u8, amount: u32) -> Result<Stamp, Refusal>
+        ensures step { IsStep C.answer K.kind (view self.old) (call.put session key kind amount) result (view self.new) }
+        ensures keeps { RefusalKeeps result (view self.old) (view self.new) }
+    {
+        self.parts.put(session, key, kind, amount)
+    }
+
+    /// The latest version of a key that the session's server shows, or none.
+    pub fn get(&mut self, session: u8, key: u16) -> Result<Option<Shown>, Refusal>
+        ensures step { IsStep C.answer K.kind (view self.old) (call.get session key) result (view self.new) }
+        ensures keeps { RefusalKeeps result (view self.old) (view self.new) }
+    {
+        self.parts.get(session, key)
+    }
+
+    /// A new stamp of a server for the other sites.
+    pub fn heartbeat(&mut self, site: u8, partition: u8) -> Result<Stamp, Refusal>
+        ensures step { IsStep C.answer K.kind (view self.old) (call.heartbeat site partition) result (view self.new) }
+        ensures keeps { RefusalKeeps result (view self.old) (view self.new) }
+    {
+        self.parts.heartbeat(site, partition)
+    }
+
+    /// A site takes the next entry that waits for it at another site's server.
+    pub fn deliver(&mut self, from: u8, to: u8, partition: u8) -> Result<(), Refusal>
+        ensures step { IsStep C.answer K.kind (view self.old) (call.deliver from to partition) result (view self.new) }
+        ensures keeps { RefusalKeeps result (view self.old) (view self.new) }
+    {
+        self.parts.deliver(from, to, partition)
+    }
+
+    /// A server tells its site how far it has received.
+    pub fn report(&mut self, site: u8, partition: u8) -> Result<(), Refusal>
+        ensures step { IsStep C.answer K.kind (view self.old) (call.report site partition) result (view self.new) }
+        ensures keeps { RefusalKeeps result (view self.old) (view self.new) }
+    {
+        self.parts.report(site, partition)
+    }
+
+    /// What every server of a site has reported is joined into the stable mark of one of them.
+    pub fn stabilise(&mut self, site: u8, partition: u8) -> Result<(), Refusal>
+        ensures step { IsStep C.answer K.kind (view self.old) (call.stabilise site partition) result (view self.new) }
+        ensures keeps { RefusalKeeps result (view self.old) (view self.new) }
+    {
+        self.parts.stabilise(site, partition)
+    }
+
+    /// A fixed view of the session's site, as far as one of its servers and the session know it to be stable.
+    pub fn open_snapshot(&mut self, session: u8, partition: u8) -> Result<Ticket, Refusal>
+        ensures step { IsStep C.answer K.kind (view self.old) (call.open_snapshot session partition) result (view self.new) }
+        ensures keeps { RefusalKeeps result (view self.old) (view self.new) }
+    {
+        self.parts.open_snapshot(session, partition)
+    }
+
+    /// The latest version of a key that the snapshot's cut covers, or none.
+    pub fn read(&mut self, ticket: &Ticket, key: u16) -> Result<Option<Shown>, Refusal>
+        ensures step { IsStep C.answer K.kind (view self.old) (call.read ticket.now key) result (view self.new) }
+        ensures keeps { RefusalKeeps result (view self.old) (view self.new) }
+    {
+        self.parts.read(ticket, key)
+    }
+
+    /// The end of a snapshot. The ticket is taken in either case, done or refused.
+    pub fn close(&mut self, ticket: Ticket) -> Result<(), Refusal>
+        ensures step { IsStep C.answer K.kind (view self.old) (call.close ticket) result (view self.new) }
+        ensures keeps { RefusalKeeps result (view self.old) (view self.new) }
+    {
+        self.parts.close(ticket)
+    }
+
+    /// A server drops the versions that no snapshot of the site, open or yet to be opened, can need. Answers how many.
+    pub fn tidy(&mut self, site: u8, partition: u8) -> Result<usize, Refusal>
+        ensures step { IsStep C.answer K.kind (view self.old) (call.tidy site partition) result (view self.new) }
+        ensures keeps { RefusalKeeps result (view self.old) (view self.new) }
+    {
+        self.parts.tidy(site, partition)
+    }
+
+    /// How far a server's last stamp is ahead of its reading.
+    pub fn lead(&self, site: u8, partition: u8) -> Result<i64, Refusal>
+        ensures { IsStep C.answer K.kind (view self.now) (call.lead site partition) result (view self.now) }
+    {
+        self.parts.lead(site, partition)
+    }
+}

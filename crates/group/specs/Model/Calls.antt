@@ -1,5 +1,5 @@
 -- What each call of a group answers, and the group after it. Refusals stand in the order in which they are checked.
-use Rattle.std.specs.Prelude.{ℕ, suc, ◌-◌, ◌^◌, Bool, if◌then◌else◌, [], ◌∷◌, ◌++◌, length, Some, None, Ok, Err, Option, Result, ◌==◌, nat_le, nat_lt}
+use Rattle.std.specs.Prelude.{◌≡◌, ℕ, suc, ◌-◌, ◌^◌, Bool, if◌then◌else◌, [], ◌∷◌, ◌++◌, length, Some, None, Ok, Err, Option, Result, ◌==◌, nat_le, nat_lt}
 use Rattle.stamps.specs.declared.refusal.Refusal.{Refusal}
 use Rattle.stamps.specs.declared.refusal.Refusal.TheVariants.{NotInLayout, NoSession, NoneFree, NothingWaits, NotOpen, End}
 use Rattle.stamps.specs.Rows.{PerSite, join}
@@ -134,3 +134,7 @@ step rule k g (read ticket key) =
 step rule k g (close ticket) = on_seat g ticket (λ y. (Ok tt, with_seat g ticket.seat None g.next_serial))
 step rule k g (tidy site partition) = on_server g site partition (λ s. with_ok (server_tidy k s (safe_mark k g site)))
 step rule k g (lead site partition) = if has_server g site partition then (Ok (lead_of (g.server site partition)), g) else (Err NotInLayout, g)
+
+-- the call has this answer, and leaves the group in this state
+abbrev pub IsStep : Rule → Kind → GroupState → (call : Call) → Answer call → GroupState → Type 0
+IsStep rule kind before call answer after = (answer, after) ≡ step rule kind before call
