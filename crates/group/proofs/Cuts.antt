@@ -1,16 +1,13 @@
 -- The cuts of open snapshots, seat by seat.
-use Rattle.std.proofs.Common.{◌≡◌, ℕ, ◌+◌, ◌<◌, Bool, true, false, cond, eqb, List, [], ◌∷◌, ◌++◌, length, get_or, position, ltb, drop, Some, None, Option, Result, sym, refl, ap, ◌∙◌, append_assoc, arith}
+use Rattle.std.proofs.Common.{◌≡◌, ℕ, ◌+◌, ◌<◌, Bool, true, false, cond, eqb, List, [], ◌∷◌, ◌++◌, length, get_or, position, ltb, drop, Some, None, Option, sym, refl, ap, ◌∙◌, append_assoc, arith}
 use Rattle.std.proofs.lemmas.Bool.{ltb-true}
 use Rattle.std.proofs.lemmas.List.{drop_more, get_or_default}
 use Rattle.std.specs.List.{position_or_len}
 use Rattle.std.specs.Option.{is_none}
-use Rattle.fixed_vec.specs.Items.{pushed}
-use Rattle.fixed_vec.specs.declared.fixed_vec.Full.{Full}
 use Rattle.stamps.specs.Rows.{PerSite}
 use Rattle.stamps.specs.declared.row.Row.{Row}
 use Rattle.group.specs.Model.Groups.{GroupState, SeatState, cuts_of, lowest_free, session_at}
 use Rattle.group.specs.Sessions.{cut_in, free_seat}
-use Rattle.group.proofs.Rows.{pushed_room}
 
 -- a seat with a cut of the site
 cuts_some : (g : GroupState) (site : ℕ) (o : Option SeatState) (ys : List (Option SeatState)) (cut : PerSite) → cut_in g site o ≡ Some cut → cuts_of g site (o ∷ ys) ≡ cut ∷ cuts_of g site ys
@@ -31,15 +28,15 @@ cuts_none g site (Some y) ys e = by_test (eqb (session_at g y.session).site site
     by_test false h = refl
 
 -- a cut is pushed
-pub cut_more : (g : GroupState) (site : ℕ) (seats : List (Option SeatState)) (i : ℕ) (xs ys : List Row) (x : Row) (r : Result (Unit {0}) Full) (all : List PerSite)
-    → i < length seats → cut_in g site (get_or seats i None) ≡ Some x → (r, ys) ≡ pushed 8 xs x → length xs < 8
+pub cut_more : (g : GroupState) (site : ℕ) (seats : List (Option SeatState)) (i : ℕ) (xs ys : List Row) (x : Row) (all : List PerSite)
+    → i < length seats → cut_in g site (get_or seats i None) ≡ Some x → ys ≡ xs ++ x ∷ []
     → xs ++ cuts_of g site (drop i seats) ≡ all → ys ++ cuts_of g site (drop (i + 1) seats) ≡ all
-cut_more g site seats i xs ys x r all here cut push room before =
+cut_more g site seats i xs ys x all here cut push before =
     let rest = cuts_of g site (drop (i + 1) seats) in
     let now : cuts_of g site (drop i seats) ≡ x ∷ rest =
     ap (cuts_of g site) (drop_more seats i None here) ∙ cuts_some g site (get_or seats i None) (drop (i + 1) seats) x cut
     in
-    ap (λ t. t ++ rest) (pushed_room 8 xs ys x r push room)
+    ap (λ t. t ++ rest) push
     ∙ append_assoc xs (x ∷ []) rest
     ∙ ap (λ t. xs ++ t) (sym now) ∙ before
 

@@ -44,7 +44,7 @@ pub record Rest : Type 0 where
 abbrev pub state_with : Rest → (ℕ → ℕ → ServerState) → GroupState
 state_with r server = record { sites = r.sites; partitions = r.partitions; server = server; sessions = r.sessions; seats = r.seats; next_serial = r.next }
 
-abbrev pub rest_of : {C K Mark : Type 0} → GroupParts C K Mark → Rest
+abbrev pub rest_of : {C K Mark : Type 0} {rule : _} {kind : _} → GroupParts C K Mark rule kind → Rest
 rest_of g =
     let s = view g in
     record { sites = s.sites; partitions = s.partitions; sessions = s.sessions; seats = s.seats; next = s.next_serial }
@@ -180,6 +180,16 @@ refused_same {A} g mid site partition why (Ok done, s) e =
     let first : Result A Refusal × GroupState → Result A Refusal = λ x. x.0 in
     let no : Err why ≡ Ok done = ap first e in
     cc
+
+-- a call of a server leaves the sessions as they were
+pub sessions_left : {A : Type 0} (g mid : GroupState) (site partition : ℕ) (r : Result A Refusal) (t : Result A Refusal × ServerState)
+    → (r, mid) ≡ server_left g site partition t → mid.sessions ≡ g.sessions
+sessions_left {A} g mid site partition r (Ok done, s) e =
+    let sessions : Result A Refusal × GroupState → List SessionState = λ x. x.1.sessions in
+    ap sessions e
+sessions_left {A} g mid site partition r (Err why, s) e =
+    let sessions : Result A Refusal × GroupState → List SessionState = λ x. x.1.sessions in
+    ap sessions e
 
 -- a refusal leaves the group as it was
 pub on_server_keeps : {A : Type 0} (g after : GroupState) (site partition : ℕ) (r : Result A Refusal) (act : ServerState → Result A Refusal × ServerState)

@@ -28,19 +28,19 @@ server_record s =
     }
 
 -- what contracts see of a group
-abbrev pub group_record : {C K Mark : Type 0} → GroupParts C K Mark → GroupRecord
+abbrev pub group_record : {C K Mark : Type 0} {rule : _} {kind : _} → GroupParts C K Mark rule kind → GroupRecord
 group_record g =
     record {
       sites = g.layout.sites;
       partitions = g.layout.partitions;
       servers = map server_record g.servers;
-      sessions = items g.sessions;
+      sessions = g.sessions.items;
       seats = g.seats.places;
       next_serial = g.next_serial;
     }
 
 -- the group in plain numbers
-abbrev pub view : {C K Mark : Type 0} → GroupParts C K Mark → GroupState
+abbrev pub view : {C K Mark : Type 0} {rule : _} {kind : _} → GroupParts C K Mark rule kind → GroupState
 view g = view_of (group_record g)
 
 -- the server at a place
@@ -56,14 +56,14 @@ abbrev pub call_server_at : {A : Type 0} → GroupState → Place → (ServerSta
 call_server_at g place act = server_left g place.0 place.1 (act (server_at g place))
 
 -- the servers of a site, by partition
-abbrev pub ServersOf : {C K Mark : Type 0} → GroupParts C K Mark → ℕ → List (Server C K Mark) → Type 0
-ServersOf g site servers =
+abbrev pub IsServerList : {C K Mark : Type 0} {rule : _} {kind : _} → GroupParts C K Mark rule kind → ℕ → List (Server C K Mark) → Type 0
+IsServerList g site servers =
     (length servers ≡ g.layout.partitions)
     × ((n : ℕ) (d : _) → n < length servers → server_view (slice_index_or servers n d) ≡ (view g).server site n)
 
 -- a row for each of the first servers, as a function gives it
-abbrev pub RowsOf : {C K Mark : Type 0} → (Server C K Mark → Row → Type 0) → (ℕ → ServerState) → ℕ → List Row → Type 0
-RowsOf gives server zero rows = rows ≡ []
-RowsOf {C} {K} {Mark} gives server (suc n) rows =
+abbrev pub IsRowList : {C K Mark : Type 0} → (Server C K Mark → Row → Type 0) → (ℕ → ServerState) → ℕ → List Row → Type 0
+IsRowList gives server zero rows = rows ≡ []
+IsRowList {C} {K} {Mark} gives server (suc n) rows =
     (before : List Row) × (s : Server C K Mark) × (row : Row)
-    × (rows ≡ before ++ row ∷ []) × RowsOf gives server n before × (server_view s ≡ server n) × gives s row
+    × (rows ≡ before ++ row ∷ []) × IsRowList gives server n before × (server_view s ≡ server n) × gives s row

@@ -1,5 +1,5 @@
 -- Open snapshots.
-use Rattle.std.specs.Prelude.{ℕ, if◌then◌else◌, List, length, Some, None, Ok, Err, Option, Result, ◌==◌, nat_lt}
+use Rattle.std.specs.Prelude.{◌≡◌, ℕ, ◌<◌, if◌then◌else◌, List, length, slice_index_or, Some, None, Ok, Err, Option, Result, ◌==◌, nat_lt}
 use Rattle.stamps.specs.declared.refusal.Refusal.{Refusal}
 use Rattle.stamps.specs.declared.refusal.Refusal.TheVariants.{NotOpen}
 use Rattle.stamps.specs.Rows.{PerSite}
@@ -18,3 +18,7 @@ cut_in g site (Some y) = if (session_at g y.session).site == site then Some y.cu
 abbrev pub open_at : ℕ → Option SeatState → Result SeatState Refusal
 open_at serial None = Err NotOpen
 open_at serial (Some y) = if y.serial == serial then Ok y else Err NotOpen
+
+-- each open snapshot is of one of so many sessions
+abbrev pub HasSessionsOf : ℕ → List (Option SeatState) → Type 0
+HasSessionsOf sessions seats = (seat : ℕ) (y : SeatState) → slice_index_or seats seat None ≡ Some y → y.session < sessions

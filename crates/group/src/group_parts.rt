@@ -1,13 +1,17 @@
-// The whole group: every server of every site, the sessions and the open snapshots.
+//! What a group holds, and its calls on these parts.
+ghost use Rattle.std.specs.Prelude.{length};
+ghost use Rattle.group.specs.Sessions.{HasSessionsOf};
+
 use crate::layout::Layout;
 use crate::seats::Seats;
 use crate::session::Session;
-use fixed_vec::FixedVec;
+use arrayvec::ArrayVec;
 use servers::server::Server;
 use stamps::clock_rule::ClockRule;
 use stamps::mark_kind::MarkKind;
 
-const MOST_SESSIONS: usize = 8;
+/// How many sessions may be opened.
+pub(crate) const MOST_SESSIONS: usize = 8;
 
 // Its calls take plain numbers, and refuse those that the layout lacks.
 //
@@ -17,17 +21,18 @@ const MOST_SESSIONS: usize = 8;
 pub(crate) struct GroupParts<C: ClockRule, K: MarkKind> {
     layout: Layout,
     servers: [Server<C, K>; 16],
-    sessions: FixedVec<Session, MOST_SESSIONS>,
+    sessions: ArrayVec<Session, MOST_SESSIONS>,
     seats: Seats,
     next_serial: u32,
+    ghost opened: { HasSessionsOf (length sessions.items) seats.places },
 }
 
 mod clocks;
 mod delivery;
 mod entries;
 mod makes;
-mod parts;
 mod rows;
+mod server_calls;
 mod sessions;
 mod snapshots;
 mod stability;

@@ -1,4 +1,4 @@
-// One client's sequence of calls.
+//! One client's sequence of calls.
 ghost use Rattle.std.specs.Prelude.{◌≡◌};
 ghost use Rattle.group.specs.Model.Groups.{new_session};
 
@@ -7,9 +7,9 @@ use stamps::site::Site;
 use stamps::stamp::Stamp;
 use std::marker::Model;
 
-// The marks are kept as their rows, so that a session is not generic. `depends` stands for what the session has put and was
-// shown, `knows` for the stable marks that it has met.
-#[derive(Clone, Copy)]
+/// A session at a site. `depends` stands for what it has put and was shown, `knows` for the stable marks that it has met;
+/// both are kept as the rows of their marks, so that a session is not generic.
+#[derive(Clone, Copy, Debug, Default)]
 pub(crate) struct Session {
     pub(crate) site: Site,
     pub(crate) depends: Row,
@@ -28,6 +28,7 @@ impl Model for Session {
 }
 
 impl Session {
+    /// A session as it is opened.
     pub(crate) fn new(site: Site) -> Session
         ensures { result ≡ new_session site }
     {

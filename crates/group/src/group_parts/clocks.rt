@@ -1,8 +1,8 @@
-// The calls on a server's clock.
+//! The calls on a server's clock.
 ghost use Rattle.std.specs.Prelude.{◌≡◌};
 ghost use Rattle.stamps.specs.Refusals.{RefusalKeeps};
-ghost use Rattle.group.specs.Model.Calls.{step};
-ghost use Rattle.group.specs.Model.Events.{tell as Tell, heartbeat as Heartbeat, lead as Lead};
+ghost use Rattle.group.specs.Model.Calls.{IsStep};
+ghost use Rattle.group.specs.Model.Events as call;
 ghost use Rattle.group.specs.Parts.{view};
 
 use super::GroupParts;
@@ -14,7 +14,7 @@ use stamps::stamp::Stamp;
 impl<C: ClockRule, K: MarkKind> GroupParts<C, K> {
     // The physical clock of a server shows a new time.
     pub(crate) fn tell(&mut self, site: u8, partition: u8, time: u64) -> Result<(), Refusal>
-        ensures step { (result, view self.new) ≡ step C.ClockRule.answer K.MarkKind.kind (view self.old) (Tell site partition time) }
+        ensures step { IsStep C.answer K.kind (view self.old) (call.tell site partition time) result (view self.new) }
         ensures keeps { RefusalKeeps result (view self.old) (view self.new) }
     {
         let place = self.layout.place(site, partition)?;
@@ -23,7 +23,7 @@ impl<C: ClockRule, K: MarkKind> GroupParts<C, K> {
 
     // A new stamp of a server for the other sites.
     pub(crate) fn heartbeat(&mut self, site: u8, partition: u8) -> Result<Stamp, Refusal>
-        ensures step { (result, view self.new) ≡ step C.ClockRule.answer K.MarkKind.kind (view self.old) (Heartbeat site partition) }
+        ensures step { IsStep C.answer K.kind (view self.old) (call.heartbeat site partition) result (view self.new) }
         ensures keeps { RefusalKeeps result (view self.old) (view self.new) }
     {
         let place = self.layout.place(site, partition)?;
@@ -32,7 +32,7 @@ impl<C: ClockRule, K: MarkKind> GroupParts<C, K> {
 
     // How far a server's last stamp is ahead of its reading.
     pub(crate) fn lead(&self, site: u8, partition: u8) -> Result<i64, Refusal>
-        ensures { (result, view self.now) ≡ step C.ClockRule.answer K.MarkKind.kind (view self.now) (Lead site partition) }
+        ensures { IsStep C.answer K.kind (view self.now) (call.lead site partition) result (view self.now) }
     {
         let place = self.layout.place(site, partition)?;
         Ok(self.server(place).lead())

@@ -1,8 +1,8 @@
-// The delivery of entries from site to site.
+//! The delivery of entries from site to site.
 ghost use Rattle.std.specs.Prelude.{◌≡◌};
 ghost use Rattle.stamps.specs.Refusals.{RefusalKeeps};
-ghost use Rattle.group.specs.Model.Calls.{step};
-ghost use Rattle.group.specs.Model.Events.{deliver as Deliver};
+ghost use Rattle.group.specs.Model.Calls.{IsStep};
+ghost use Rattle.group.specs.Model.Events as call;
 ghost use Rattle.group.specs.Parts.{view};
 
 use super::GroupParts;
@@ -13,7 +13,7 @@ use stamps::refusal::Refusal;
 impl<C: ClockRule, K: MarkKind> GroupParts<C, K> {
     // A site takes the next entry that waits for it at another site's server.
     pub(crate) fn deliver(&mut self, from: u8, to: u8, partition: u8) -> Result<(), Refusal>
-        ensures step { (result, view self.new) ≡ step C.ClockRule.answer K.MarkKind.kind (view self.old) (Deliver from to partition) }
+        ensures step { IsStep C.answer K.kind (view self.old) (call.deliver from to partition) result (view self.new) }
         ensures keeps { RefusalKeeps result (view self.old) (view self.new) }
     {
         let (from, to) = self.layout.line(from, to, partition)?;

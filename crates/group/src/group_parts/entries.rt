@@ -1,9 +1,9 @@
-// The calls of sessions on keys.
-ghost use Rattle.std.specs.Prelude.{◌≡◌, Ok as Lawful};
+//! The calls of sessions on keys.
+ghost use Rattle.std.specs.Prelude.{◌≡◌, ◌<◌, length};
 ghost use Rattle.stamps.specs.Refusals.{RefusalKeeps};
 ghost use Rattle.group.specs.Model.Groups.{session_at};
-ghost use Rattle.group.specs.Model.Calls.{step, put_value};
-ghost use Rattle.group.specs.Model.Events.{put as Put, get as Get};
+ghost use Rattle.group.specs.Model.Calls.{IsStep, put_value};
+ghost use Rattle.group.specs.Model.Events as call;
 ghost use Rattle.group.specs.Parts.{view};
 
 use super::GroupParts;
@@ -26,7 +26,7 @@ impl<C: ClockRule, K: MarkKind> GroupParts<C, K> {
         kind: u8,
         amount: u32,
     ) -> Result<Stamp, Refusal>
-        ensures step { (result, view self.new) ≡ step C.ClockRule.answer K.MarkKind.kind (view self.old) (Put session key kind amount) }
+        ensures step { IsStep C.answer K.kind (view self.old) (call.put session key kind amount) result (view self.new) }
         ensures keeps { RefusalKeeps result (view self.old) (view self.new) }
     {
         if !self.has_session(session) {
@@ -38,7 +38,9 @@ impl<C: ClockRule, K: MarkKind> GroupParts<C, K> {
 
     // A put of a lawful value by a session that was opened. The session depends from then on on the new version.
     fn put_value(&mut self, number: u8, key: u16, value: Value) -> Result<Stamp, Refusal>
-        ensures step { (result, view self.new) ≡ put_value C.ClockRule.answer K.MarkKind.kind (view self.old) number key (session_at (view self.old) number) (Lawful value) }
+        requires { number < length (view self.old).sessions }
+        ensures step { let session = session_at (view self.old) number in
+            (result, view self.new) ≡ put_value C.answer K.kind (view self.old) number key session (Ok value) }
         ensures keeps { RefusalKeeps result (view self.old) (view self.new) }
     {
         let session = self.session_at(number);
@@ -56,7 +58,7 @@ impl<C: ClockRule, K: MarkKind> GroupParts<C, K> {
 
     // The latest version of a key that the session's server shows, or none.
     pub(crate) fn get(&mut self, session: u8, key: u16) -> Result<Option<Shown>, Refusal>
-        ensures step { (result, view self.new) ≡ step C.ClockRule.answer K.MarkKind.kind (view self.old) (Get session key) }
+        ensures step { IsStep C.answer K.kind (view self.old) (call.get session key) result (view self.new) }
         ensures keeps { RefusalKeeps result (view self.old) (view self.new) }
     {
         if !self.has_session(session) {

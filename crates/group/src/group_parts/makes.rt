@@ -1,4 +1,4 @@
-// The making of a group.
+//! The making of a group.
 ghost use Rattle.std.specs.Prelude.{◌≡◌, ◌<◌};
 ghost use Rattle.group.specs.Model.Groups.{new_group};
 ghost use Rattle.group.specs.Model.GroupStore.{group_store};
@@ -10,8 +10,7 @@ use super::GroupParts;
 use crate::layout::Layout;
 use crate::place::site_of;
 use crate::seats::Seats;
-use crate::session::Session;
-use fixed_vec::FixedVec;
+use arrayvec::ArrayVec;
 use servers::server::Server;
 use servers::site_count::SiteCount;
 use stamps::clock_rule::ClockRule;
@@ -22,7 +21,7 @@ impl<C: ClockRule, K: MarkKind> GroupParts<C, K> {
     // whatever calls are made.
     pub(crate) fn new(layout: Layout) -> Self
         ensures state { view result ≡ new_group layout.sites layout.partitions }
-        ensures promises { KeepsPromises (group_store C.ClockRule.answer K.MarkKind.kind layout.sites) (view result) }
+        ensures promises { KeepsPromises (group_store C.answer K.kind layout.sites) (view result) }
     {
         let sites = layout.sites();
         GroupParts {
@@ -46,7 +45,7 @@ impl<C: ClockRule, K: MarkKind> GroupParts<C, K> {
                 made_at(3, sites),
                 made_at(3, sites),
             ],
-            sessions: FixedVec::new(Session::new(site_of(0))),
+            sessions: ArrayVec::new(),
             seats: Seats::new(),
             next_serial: 0,
         }

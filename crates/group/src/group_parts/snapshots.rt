@@ -1,15 +1,16 @@
-// The calls on snapshots.
-ghost use Rattle.std.specs.Prelude.{◌≡◌, suc, ◌+◌, ◌-◌, ◌^◌, ◌<◌, Some as Taken};
+//! The calls on snapshots.
+ghost use Rattle.std.specs.Prelude.{◌≡◌, suc, ◌-◌, ◌^◌, ◌<◌, length};
 ghost use Rattle.stamps.specs.Refusals.{RefusalKeeps};
 ghost use Rattle.group.specs.Model.Groups.{seat_at, with_seat};
-ghost use Rattle.group.specs.Model.Calls.{step};
-ghost use Rattle.group.specs.Model.Events.{open_snapshot, read as Read, close as Close};
+ghost use Rattle.group.specs.Model.Calls.{IsStep};
+ghost use Rattle.group.specs.Model.Events as call;
 ghost use Rattle.group.specs.Parts.{view};
 ghost use Rattle.group.specs.Sessions.{open_at};
 
 use super::GroupParts;
 use crate::place::Place;
 use crate::seat::Seat;
+use crate::seats::SEAT_COUNT;
 use crate::shown::Shown;
 use crate::ticket::Ticket;
 use stamps::clock_rule::ClockRule;
@@ -20,7 +21,7 @@ use stamps::row::Row;
 impl<C: ClockRule, K: MarkKind> GroupParts<C, K> {
     // A fixed view of the session's site, as far as one of its servers and the session know it to be stable.
     pub(crate) fn open_snapshot(&mut self, session: u8, partition: u8) -> Result<Ticket, Refusal>
-        ensures step { (result, view self.new) ≡ step C.ClockRule.answer K.MarkKind.kind (view self.old) (open_snapshot session partition) }
+        ensures step { IsStep C.answer K.kind (view self.old) (call.open_snapshot session partition) result (view self.new) }
         ensures keeps { RefusalKeeps result (view self.old) (view self.new) }
     {
         let partition = self.layout.partition(partition)?;
@@ -40,9 +41,13 @@ impl<C: ClockRule, K: MarkKind> GroupParts<C, K> {
 
     // A seat that is free is taken, under the next serial number.
     fn take_seat(&mut self, number: u8, session: u8, cut: Row) -> Ticket
-        requires { (number < 4) × (self.old.next_serial < 2 ^ 32 - 1) }
+        requires seat { number < SEAT_COUNT }
+        requires session { session < length (view self.old).sessions }
+        requires serials { (view self.old).next_serial < 2 ^ 32 - 1 }
         ensures ticket { (result.seat ≡ number) × (result.serial ≡ (view self.old).next_serial) }
-        ensures seated { view self.new ≡ with_seat (view self.old) number (Taken (record { session = session; serial = (view self.old).next_serial; cut = cut })) (suc (view self.old).next_serial) }
+        ensures seated { let serial = (view self.old).next_serial in
+            view self.new ≡ with_seat (view self.old) number
+            (Some (record { session = session; serial = serial; cut = cut })) (suc serial) }
     {
         let serial = self.next_serial;
         let seat = Seat {
@@ -70,7 +75,7 @@ impl<C: ClockRule, K: MarkKind> GroupParts<C, K> {
 
     // The latest version of a key that the snapshot's cut covers, or none.
     pub(crate) fn read(&mut self, ticket: &Ticket, key: u16) -> Result<Option<Shown>, Refusal>
-        ensures step { (result, view self.new) ≡ step C.ClockRule.answer K.MarkKind.kind (view self.old) (Read ticket.now key) }
+        ensures step { IsStep C.answer K.kind (view self.old) (call.read ticket.now key) result (view self.new) }
         ensures keeps { RefusalKeeps result (view self.old) (view self.new) }
     {
         let seat = self.open_seat(ticket)?;
@@ -86,13 +91,13 @@ impl<C: ClockRule, K: MarkKind> GroupParts<C, K> {
 
     // The end of a snapshot. The ticket is taken in either case, done or refused.
     pub(crate) fn close(&mut self, ticket: Ticket) -> Result<(), Refusal>
-        ensures step { (result, view self.new) ≡ step C.ClockRule.answer K.MarkKind.kind (view self.old) (Close ticket) }
+        ensures step { IsStep C.answer K.kind (view self.old) (call.close ticket) result (view self.new) }
         ensures keeps { RefusalKeeps result (view self.old) (view self.new) }
     {
         // The ticket is taken apart before a refusal is answered, since it cannot be let go.
         let open = self.open_seat(&ticket);
         let Ticket { seat, serial: _ } = ticket;
-        let _ = open?;
+        open?;
         self.seats.set(seat, None);
         Ok(())
     }

@@ -1,8 +1,8 @@
-// The dropping of versions.
+//! The dropping of versions.
 ghost use Rattle.std.specs.Prelude.{◌≡◌};
 ghost use Rattle.stamps.specs.Refusals.{RefusalKeeps};
-ghost use Rattle.group.specs.Model.Calls.{step};
-ghost use Rattle.group.specs.Model.Events.{tidy as Tidy};
+ghost use Rattle.group.specs.Model.Calls.{IsStep};
+ghost use Rattle.group.specs.Model.Events as call;
 ghost use Rattle.group.specs.Parts.{view};
 
 use super::GroupParts;
@@ -14,7 +14,7 @@ use stamps::refusal::Refusal;
 impl<C: ClockRule, K: MarkKind> GroupParts<C, K> {
     // A server drops the versions that no snapshot of the site, open or yet to be opened, can need. Answers how many.
     pub(crate) fn tidy(&mut self, site: u8, partition: u8) -> Result<usize, Refusal>
-        ensures step { (result, view self.new) ≡ step C.ClockRule.answer K.MarkKind.kind (view self.old) (Tidy site partition) }
+        ensures step { IsStep C.answer K.kind (view self.old) (call.tidy site partition) result (view self.new) }
         ensures keeps { RefusalKeeps result (view self.old) (view self.new) }
     {
         let place = self.layout.place(site, partition)?;

@@ -18,8 +18,8 @@ returns g c =
     whole _ _ _ _ _
     (ap (server_from layout.sites) (servers_are (c.made_at.ensures ∙ ap (new_server 0) sites) (c.made_at-2.ensures ∙ ap (new_server 0) sites) (c.made_at-3.ensures ∙ ap (new_server 0) sites) (c.made_at-4.ensures ∙ ap (new_server 0) sites) (c.made_at-5.ensures ∙ ap (new_server 1) sites) (c.made_at-6.ensures ∙ ap (new_server 1) sites) (c.made_at-7.ensures ∙ ap (new_server 1) sites) (c.made_at-8.ensures ∙ ap (new_server 1) sites) (c.made_at-9.ensures ∙ ap (new_server 2) sites) (c.made_at-10.ensures ∙ ap (new_server 2) sites) (c.made_at-11.ensures ∙ ap (new_server 2) sites) (c.made_at-12.ensures ∙ ap (new_server 2) sites) (c.made_at-13.ensures ∙ ap (new_server 3) sites) (c.made_at-14.ensures ∙ ap (new_server 3) sites) (c.made_at-15.ensures ∙ ap (new_server 3) sites) (c.made_at-16.ensures ∙ ap (new_server 3) sites))
     ∙ at_made layout.sites _ _ _ _ refl refl refl refl)
+    c.new.ensures
     c.new-2.ensures
-    c.new-3.ensures
     in
     let rule = g.C.ClockRule.answer in
     let kind = g.K.MarkKind.kind in

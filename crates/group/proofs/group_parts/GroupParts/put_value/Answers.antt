@@ -1,4 +1,4 @@
-use Rattle.std.proofs.Common.{◌≡◌, Ok, Err, Result, sym, ap, ◌∙◌, subst, rules}
+use Rattle.std.proofs.Common.{◌≡◌, ◌<◌, List, length, Ok, Err, Result, sym, ap, ◌∙◌, subst, arith, rules}
 use Rattle.stamps.specs.declared.refusal.Refusal.{Refusal}
 use Rattle.stamps.specs.declared.stamp.Stamp.{Stamp}
 use Rattle.stamps.specs.Refusals.{RefusalKeeps}
@@ -7,9 +7,14 @@ use Rattle.servers.specs.Servers.{ServerState, server_put}
 use Rattle.group.specs.Model.Groups.{SessionState, partition_of}
 use Rattle.group.specs.Model.Calls.{put_value}
 use Rattle.group.specs.Parts.{view}
-use Rattle.group.proofs.Views.{refused_same}
+use Rattle.group.proofs.Views.{refused_same, sessions_left}
 use Rattle.group.proofs.Sessions.{puts, puts_not, writes}
 use Rattle.group.proofs.group_parts.GroupParts.put_value.Goals as goal
+
+pub set_session-requires : goal.set_session-requires
+set_session-requires g c =
+    let same = sessions_left (view c.args.self.now) (view c.write.new.self) _ _ _ _ c.write.ensures in
+    (omega arith, subst (λ (xs : List SessionState). c.args.number < length xs) (sym same) c.requires)
 
 pub returns-in_err-stamp : goal.returns-in_err-stamp
 returns-in_err-stamp g c =

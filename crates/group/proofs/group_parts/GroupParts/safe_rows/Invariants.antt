@@ -1,5 +1,4 @@
 use Rattle.std.proofs.Common.{◌≡◌, ◌+◌, ◌≤◌, ◌++◌, length, drop}
-use Rattle.fixed_vec.specs.Items.{items}
 use Rattle.group.specs.Model.Groups.{stable_at, cuts_at, cuts_of}
 use Rattle.group.specs.Parts.{view}
 use Rattle.group.proofs.group_parts.GroupParts.safe_rows.Given as goal
@@ -7,6 +6,6 @@ use Rattle.group.proofs.group_parts.GroupParts.safe_rows.Given as goal
 -- the rows so far and the cuts of the seats that are left, and there is room for a row for each
 abbrev pub invariant-loop-seat : goal.invariant-loop-seat
 invariant-loop-seat g l =
-    (items l.rows ++ cuts_of (view l.self) l.site (drop l.seat-index l.self.seats.places)
+    (l.rows.items ++ cuts_of (view l.self) l.site (drop l.seat-index l.self.seats.places)
     ≡ stable_at (view l.self) l.site ++ cuts_at (view l.self) l.site)
-    × (length (items l.rows) ≤ 4 + l.seat-index)
+    × (length l.rows.items ≤ 4 + l.seat-index)

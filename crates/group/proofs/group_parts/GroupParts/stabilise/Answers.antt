@@ -1,6 +1,5 @@
 use Rattle.std.proofs.Common.{ℕ, Ok, ap, ◌∙◌, rules}
 use Rattle.stamps.specs.Rows.{PerSite}
-use Rattle.fixed_vec.specs.Items.{items}
 use Rattle.stamps.specs.CommonFloors.{common_floor}
 use Rattle.group.specs.Model.Groups.{reported_at}
 use Rattle.servers.specs.Servers.{server_raise}
@@ -18,10 +17,10 @@ returns-clause-step g c =
     let site : ℕ × ℕ → ℕ = λ p. p.0 in
     let is = passed (has_server before c.args.site c.args.partition) (place) (c.args.site, c.args.partition) c.in_ok-place.ensures in
     let rows =
-    rows_lem _ (λ s. s.marks.reported) (before.server c.place-2.inside.site) before.partitions (items c.rows_of-rows.result) (λ s row given. search rules) c.rows_of-rows.ensures
+    rows_lem _ (λ s. s.marks.reported) (before.server c.place-2.inside.site) before.partitions c.rows_of-rows.result.items (λ s row given. search rules) c.rows_of-rows.ensures
     in
     let floor =
-    c.common_floor-floor.ensures.value ∙ ap (λ rows. common_floor k rows) c.as_slice.ensures ∙ ap (common_floor k) rows ∙ ap (λ n. common_floor k (reported_at before n)) (ap site c.place-2.view_is)
+    c.common_floor-floor.ensures.value ∙ ap (λ rows. common_floor k rows) c.as_slice.ensures.value ∙ ap (common_floor k) rows ∙ ap (λ n. common_floor k (reported_at before n)) (ap site c.place-2.view_is)
     ∙ by_numbers (λ site partition. common_floor k (reported_at before site)) c.args.site c.args.partition place is.1
     in
     ap (λ t. (Ok tt, t)) c.raise.ensures

@@ -25,7 +25,7 @@ returns-clause-step g c =
     let k = g.K.MarkKind.kind in
     let is = passed (has_server before c.args.site c.args.partition) (place) (c.args.site, c.args.partition) c.in_ok-place.ensures in
     let safe =
-    c.common_floor-safe.ensures.value ∙ ap (λ rows. common_floor k rows) c.as_slice.ensures ∙ ap (common_floor k) c.safe_rows-rows.ensures ∙ ap (safe_mark k before) (ap site c.place-2.view_is)
+    c.common_floor-safe.ensures.value ∙ ap (λ rows. common_floor k rows) c.as_slice.ensures.value ∙ ap (common_floor k) c.safe_rows-rows.ensures ∙ ap (safe_mark k before) (ap site c.place-2.view_is)
     ∙ by_numbers (λ site partition. safe_mark k before site) c.args.site c.args.partition place is.1
     in
     c.drop_outdated.ensures
