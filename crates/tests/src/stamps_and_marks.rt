@@ -42,6 +42,17 @@ fn refusals_count_from_1_to_16(rt: HostRuntime) {
     assert_eq!(rt; Refusal::ShortBuffer.number(), 16);
 }
 
+// A call that passes a refusal on by `?` ends with this text.
+#[test]
+fn a_refusal_is_an_error_with_a_text(rt: HostRuntime) -> Result<(), Fail> {
+    let text = format!(in rt.alloc(); "{}, {}", Refusal::NotInLayout, Refusal::ShortBuffer)?;
+    assert_eq!(rt;
+        text.as_str(),
+        "no such site or partition here, or an entry from a site to itself, the buffer is too short"
+    );
+    Ok(())
+}
+
 // What the tests compare is compared by its value: where these were equal, no test could fail.
 #[test]
 fn what_differs_is_not_equal(rt: HostRuntime) -> Result<(), Fail> {
