@@ -1,5 +1,5 @@
 //! The rows of marks that a common floor is taken of.
-ghost use Rattle.std.specs.Prelude.{◌≡◌, ◌<◌, ◌++◌, length};
+ghost use Rattle.std.specs.Prelude.{◌≡◌, ◌<◌, ◌≤◌, ◌++◌, length};
 ghost use Rattle.std.specs.Fn.{FnReturnsAt};
 ghost use Rattle.std.specs.Option.{ForSome};
 ghost use Rattle.group.specs.Model.Groups.{stable_at, cuts_at};
@@ -28,7 +28,8 @@ impl<C: ClockRule, K: MarkKind> GroupParts<C, K> {
         get_row: F,
     ) -> ArrayVec<Row, MOST_ROWS>
         requires { F.IsAlwaysCallable get_row }
-        ensures { IsRowList (λ s r. FnReturnsAt F.Fn get_row s r)
+        ensures few { length result.items ≤ 4 }
+        ensures rows { IsRowList (λ s r. FnReturnsAt F.Fn get_row s r)
             ((view self.now).server site) (view self.now).partitions result.items }
     {
         let mut rows = ArrayVec::new();
@@ -40,7 +41,8 @@ impl<C: ClockRule, K: MarkKind> GroupParts<C, K> {
 
     // The servers of a site, by partition.
     fn servers_of(&self, site: Site) -> &[Server<C, K>]
-        ensures { IsServerList self.now site result.now }
+        ensures few { length result.now ≤ 4 }
+        ensures servers { IsServerList self.now site result.now }
     {
         let place = Place {
             site,

@@ -12,7 +12,7 @@ use Rattle.group.proofs.group_parts.GroupParts.new.Goals as goal
 -- the promises
 pub returns : goal.returns
 returns g c =
-    let sites = c.sites-sites.ensures in
+    let sites = c.sites-sites.ensures.value in
     let layout = c.args.layout in
     let is =
     whole _ _ _ _ _
@@ -27,8 +27,7 @@ returns g c =
       state = is;
       promises =
           subst (KeepsPromises (group_store rule kind layout.sites)) (sym is)
-          (keeps_promises g.met.K.MarkKind.lawful rule g.met.C.ClockRule.lawful layout.sites layout.partitions
-          (record { some_sites = omega arith; few_sites = omega arith; some_partitions = layout.some_partitions.0; few_partitions = layout.some_partitions.1 }));
+          (keeps_promises g.met.K.MarkKind.lawful rule g.met.C.ClockRule.lawful layout.sites layout.partitions c.sites-sites.ensures.bounded);
     }
   where
     servers_are : {s0 s1 s2 s3 s4 s5 s6 s7 s8 s9 s10 s11 s12 s13 s14 s15 : ServerState} {a b c d : ServerState}

@@ -15,12 +15,9 @@ loop-seat-init g c =
     let site = c.args.site in
     let rows = c.rows_of-rows.result.items in
     let stable : rows ≡ stable_at before site =
-    rows_lem _ (λ s. s.marks.stable) (before.server site) before.partitions rows (λ s row given. search rules) c.rows_of-rows.ensures
+    rows_lem _ (λ s. s.marks.stable) (before.server site) before.partitions rows (λ s row given. search rules) c.rows_of-rows.ensures.rows
     in
-    let few : length rows ≤ 4 + 0 =
-    omega (arith, ap length stable, length_first (λ n. (before.server site n).marks.stable) before.partitions, c.args.self.now.layout.some_partitions.1)
-    in
-    (ap (λ t. t ++ cuts_at before site) stable, few)
+    (ap (λ t. t ++ cuts_at before site) stable, c.rows_of-rows.ensures.few)
 
 -- an open snapshot is of a session that was opened
 pub cut_of-requires : goal.cut_of-requires

@@ -17,7 +17,7 @@ returns-clause-step g c =
     let site : ℕ × ℕ → ℕ = λ p. p.0 in
     let is = passed (has_server before c.args.site c.args.partition) (place) (c.args.site, c.args.partition) c.in_ok-place.ensures in
     let rows =
-    rows_lem _ (λ s. s.marks.reported) (before.server c.place-2.inside.site) before.partitions c.rows_of-rows.result.items (λ s row given. search rules) c.rows_of-rows.ensures
+    rows_lem _ (λ s. s.marks.reported) (before.server c.place-2.inside.site) before.partitions c.rows_of-rows.result.items (λ s row given. search rules) c.rows_of-rows.ensures.rows
     in
     let floor =
     c.common_floor-floor.ensures.value ∙ ap (λ rows. common_floor k rows) c.as_slice.ensures.value ∙ ap (common_floor k) rows ∙ ap (λ n. common_floor k (reported_at before n)) (ap site c.place-2.view_is)
