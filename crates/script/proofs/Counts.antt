@@ -5,7 +5,7 @@ use Rattle.std.proofs.lemmas.Bool.{cond_both}
 use Rattle.stamps.specs.declared.refusal.Refusal.{Refusal}
 use Rattle.stamps.specs.Outside.{and_then}
 use Rattle.group.specs.Model.Groups.{GroupState}
-use Rattle.group.specs.Layouts.{checked_counts}
+use Rattle.group.specs.Layouts.{checked_layout}
 use Rattle.script.specs.declared.command.Command.{Command}
 use Rattle.script.specs.declared.command.Command.TheVariants.{Layout}
 use Rattle.script.specs.Commands.{read_command}
@@ -47,7 +47,7 @@ with_made (Err why) f h = tt
 
 made_or : (command : Command) → MadeOr (make_group command)
 made_or (Layout sites partitions clock marks) =
-    with_made (checked_counts sites partitions) _ (λ counts. with_made (clock_of clock) _ (λ rule. with_made (marks_of marks) _ (λ kind. refl)))
+    with_made (checked_layout (record { sites = sites; partitions = partitions })) _ (λ layout. with_made (clock_of clock) _ (λ rule. with_made (marks_of marks) _ (λ kind. refl)))
 made_or command = tt
 
 -- what a step leaves is what the commands alone leave

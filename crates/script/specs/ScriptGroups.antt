@@ -10,7 +10,7 @@ use Rattle.servers.specs.Servers.{Rule}
 use Rattle.group.specs.Model.Groups as model
 use Rattle.group.specs.Model.Groups.{GroupState}
 use Rattle.group.specs.Groups as group
-use Rattle.group.specs.Layouts.{checked_counts}
+use Rattle.group.specs.Layouts.{checked_layout}
 use Rattle.script.specs.declared.command.Command.{Command}
 use Rattle.script.specs.declared.command.Command.TheVariants.{Layout}
 use Rattle.script.specs.declared.any_group.AnyGroup.{AnyGroup}
@@ -62,9 +62,9 @@ marks_of letter =
 -- the group that a script's first command makes, which has to be a layout
 abbrev pub make_group : Command → Result ScriptGroup Refusal
 make_group (Layout sites partitions clock marks) =
-    and_then (checked_counts sites partitions) (λ counts.
+    and_then (checked_layout (record { sites = sites; partitions = partitions })) (λ layout.
     and_then (clock_of clock) (λ rule.
-    and_then (marks_of marks) (λ kind. Ok (some_group rule kind (model.new_group counts.0 counts.1)))))
+    and_then (marks_of marks) (λ kind. Ok (some_group rule kind (model.new_group layout.sites layout.partitions)))))
 make_group command = Err LayoutMisplaced
 
 -- a first command is done if it makes a group
