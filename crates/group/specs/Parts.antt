@@ -1,7 +1,6 @@
 -- The parts of a group: what contracts see of them, and one server of them.
 use Rattle.std.specs.Prelude.{◌≡◌, ℕ, zero, suc, ◌<◌, List, [], ◌∷◌, ◌++◌, map, length, Result, slice_index_or}
-use Rattle.fixed_vec.specs.Items.{items}
-use Rattle.servers.specs.Held.{versions_of}
+use Rattle.servers.specs.Tables.{versions_of}
 use Rattle.servers.specs.Servers.{ServerState, view as server_view}
 use Rattle.servers.specs.declared.server.Server.{Server}
 use Rattle.stamps.specs.declared.row.Row.{Row}
@@ -23,7 +22,7 @@ server_record s =
       reported = s.reported;
       stable = s.stable;
       versions = versions_of s.table;
-      entries = items s.outbox.entries;
+      entries = s.outbox.entries.items;
       left = s.outbox.left;
     }
 

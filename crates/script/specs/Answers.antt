@@ -26,7 +26,7 @@ basis_text Sheet = codes "basis sheet"
 abbrev pub value_text : Value → List ℕ
 value_text Gone = codes "gone"
 value_text (Price cents) = codes "price " ++ decimal cents
-value_text (Percent hundredths) = codes "percent " ++ decimal hundredths
+value_text (Percent percent) = codes "percent " ++ decimal percent.hundredths
 value_text (BasisOf basis) = basis_text basis
 
 -- a version as its value, its stamp and its source

@@ -152,7 +152,7 @@ impl Line {
         match value {
             Value::Gone => self.text(b"gone"),
             Value::Price(cents) => self.amount(b"price ", cents),
-            Value::Percent(_) => self.amount(b"percent ", value.amount()),
+            Value::Percent(percent) => self.amount(b"percent ", percent.hundredths),
             Value::Basis(basis) => self.basis(basis),
         }
     }

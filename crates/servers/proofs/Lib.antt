@@ -1,3 +1,4 @@
+pub mod CheckedPercents
 pub mod Keeping
 pub mod Latest
 pub mod Queues

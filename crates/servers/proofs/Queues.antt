@@ -168,13 +168,13 @@ fewer left taker = with_entry left taker (at left taker - 1)
 pub take_queues : (taker : ℕ) (es : List Entry) (left : PerSite) → taker < 4 → greatest left ≡ length es → last_for es (fewer left taker) ≡ take_entry (last_for es left) taker
 take_queues taker es left few needed = take_is taker es left (fewer left taker) few needed (λ i e. rw e (at_same left taker (at left taker - 1) few)) (λ i l ne. at_other left i taker (at left taker - 1) l ne)
 
--- each count is at most what it was
+-- each count is at most what it was, and one of them is one less
 pub fewer_counts : (own sites taker : ℕ) (left : PerSite) (n : ℕ) → taker < 4 → IsOthersOnly own sites left → greatest left ≡ n
-    → IsOthersOnly own sites (fewer left taker) × (greatest (fewer left taker) ≤ n)
+    → IsOthersOnly own sites (fewer left taker) × (greatest (fewer left taker) ≤ n) × (n ≤ greatest (fewer left taker) + 1)
 fewer_counts own sites taker left n few others needed =
-    by_site (λ t. t < 4 → IsOthersOnly own sites (fewer left t) × (greatest (fewer left t) ≤ n))
-    (λ _. ((λ z. let k = others.0 z in omega arith, others.1, others.2, others.3), omega arith))
-    (λ _. ((others.0, λ z. let k = others.1 z in omega arith, others.2, others.3), omega arith))
-    (λ _. ((others.0, others.1, λ z. let k = others.2 z in omega arith, others.3), omega arith))
-    (λ _. ((others.0, others.1, others.2, λ z. let k = others.3 z in omega arith), omega arith))
+    by_site (λ t. t < 4 → IsOthersOnly own sites (fewer left t) × (greatest (fewer left t) ≤ n) × (n ≤ greatest (fewer left t) + 1))
+    (λ _. ((λ z. let k = others.0 z in omega arith, others.1, others.2, others.3), omega arith, omega arith))
+    (λ _. ((others.0, λ z. let k = others.1 z in omega arith, others.2, others.3), omega arith, omega arith))
+    (λ _. ((others.0, others.1, λ z. let k = others.2 z in omega arith, others.3), omega arith, omega arith))
+    (λ _. ((others.0, others.1, others.2, λ z. let k = others.3 z in omega arith), omega arith, omega arith))
     (λ m l. absurd (omega arith)) taker few

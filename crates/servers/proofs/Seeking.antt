@@ -16,22 +16,22 @@ within None n = Unit {0}
 within (Some i) n = i < n
 
 -- one turn: what was found now is the better of what was found before and the version at i
-pub seek_more : (shows : Version → Bool) (key : ℕ) (d : Version) (vs : List Version) (i : ℕ) (was is : Option ℕ)
+pub seek_more : (test : Version → Bool) (key : ℕ) (d : Version) (vs : List Version) (i : ℕ) (was is : Option ℕ)
     → i < length vs
-    → standing d vs is ≡ better_of shows key (standing d vs was) (get_or vs i d)
-    → latest_from shows key (standing d vs was) (drop i vs) ≡ latest shows key vs
-    → latest_from shows key (standing d vs is) (drop (i + 1) vs) ≡ latest shows key vs
-seek_more shows key d vs i was is lt e inv =
-    ap (λ f. latest_from shows key f (drop (i + 1) vs)) e ∙ (rw (drop_more vs i d lt) at inv)
+    → standing d vs is ≡ better_of test key (standing d vs was) (get_or vs i d)
+    → latest_from test key (standing d vs was) (drop i vs) ≡ latest test key vs
+    → latest_from test key (standing d vs is) (drop (i + 1) vs) ≡ latest test key vs
+seek_more test key d vs i was is lt e inv =
+    ap (λ f. latest_from test key f (drop (i + 1) vs)) e ∙ (rw (drop_more vs i d lt) at inv)
 
 abbrev pub nothing : Version
 nothing = record { key = 0; value = Gone; stamp = 0; source = 0; mark = same 0 }
 
 -- after the last turn, what stands at the found place is the latest
-pub seek_all : (shows : Version → Bool) (key : ℕ) (d : Version) (vs : List Version) (i : ℕ) (found : Option ℕ)
-    → length vs ≤ i → latest_from shows key (standing d vs found) (drop i vs) ≡ latest shows key vs
-    → standing d vs found ≡ latest shows key vs
-seek_all shows key d vs i found le inv = rw (drop_all i vs le) at inv
+pub seek_all : (test : Version → Bool) (key : ℕ) (d : Version) (vs : List Version) (i : ℕ) (found : Option ℕ)
+    → length vs ≤ i → latest_from test key (standing d vs found) (drop i vs) ≡ latest test key vs
+    → standing d vs found ≡ latest test key vs
+seek_all test key d vs i found le inv = rw (drop_all i vs le) at inv
 
 -- the version at a place is what stands there
 pub stands : (xs : List Version) (i : ℕ) (x : Version) → x ≡ get_or xs i x → i < length xs → Some x ≡ standing nothing xs (Some i)

@@ -24,15 +24,15 @@ IsAsLateVersion v w = (w.stamp ≤ v.stamp) × (w.stamp ≡ v.stamp → w.source
 abbrev pub IsLaterVersion : Version → Version → Type 0
 IsLaterVersion v w = (w.stamp ≤ v.stamp) × (w.stamp ≡ v.stamp → w.source < v.source)
 
--- a version of the key that is shown
+-- a version of the key that passes a test
 abbrev pub Passes : (Version → Bool) → ℕ → Version → Type 0
-Passes shows key v = (v.key ≡ key) × (shows v ≡ true)
+Passes test key v = (v.key ≡ key) × (test v ≡ true)
 
 -- The latest under a test is held and passes, and nothing held that passes is later; there is none exactly when nothing
 -- held passes.
 abbrev pub IsLatest : (Version → Bool) → ℕ → List Version → Option Version → Type 0
-IsLatest shows key vs None = (v : Version) → IsIn v vs → Passes shows key v → ⊥
-IsLatest shows key vs (Some b) = IsIn b vs × Passes shows key b × ((v : Version) → IsIn v vs → Passes shows key v → IsAsLateVersion b v)
+IsLatest test key vs None = (v : Version) → IsIn v vs → Passes test key v → ⊥
+IsLatest test key vs (Some b) = IsIn b vs × Passes test key b × ((v : Version) → IsIn v vs → Passes test key v → IsAsLateVersion b v)
 
 -- Tidying under a safe mark.
 pub record IsTidied (k : Kind) (safe : PerSite) (before after : List Version) (count : ℕ) : Type 0 where

@@ -1,8 +1,8 @@
 pub mod Percents
+pub mod Bases
 pub mod Values
 pub mod Versions
 pub mod Tables
-pub mod Held
 pub mod Entries
 pub mod Others
 pub mod SiteCounts

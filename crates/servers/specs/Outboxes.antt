@@ -1,6 +1,5 @@
 -- Outboxes: what each other site has still to take, in order of issue.
 use Rattle.std.specs.Prelude.{ℕ, ◌-◌, Bool, if◌then◌else◌, ◌&&◌, ◌||◌, List, [], ◌∷◌, ◌++◌, length, drop, Some, None, Option, ◌==◌, nat_le, nat_lt}
-use Rattle.fixed_vec.specs.Items.{items}
 use Rattle.stamps.specs.Rows.{PerSite, at}
 use Rattle.servers.specs.declared.entry.Entry.{Entry}
 use Rattle.servers.specs.Others.{is_other}
@@ -15,7 +14,7 @@ abbrev pub last_for : List Entry → PerSite → Queues
 last_for entries left site = if nat_lt site 4 then drop (length entries - at left site) entries else []
 
 abbrev pub queues_of : Outbox → Queues
-queues_of o = last_for (items o.entries) o.left
+queues_of o = last_for o.entries.items o.left
 
 abbrev pub empty_queues : Queues
 empty_queues site = []
@@ -30,10 +29,6 @@ is_outbox_full own sites w = is_queue_full own sites w 0 || (is_queue_full own s
 -- one entry more for every other site
 abbrev pub issue_entry : ℕ → ℕ → Queues → Entry → Queues
 issue_entry own sites w e site = if is_other own sites site then w site ++ e ∷ [] else w site
-
--- the same, if no other site has 16 to take
-abbrev pub issued_if_room : ℕ → ℕ → Queues → Entry → Queues
-issued_if_room own sites w e = if is_outbox_full own sites w then w else issue_entry own sites w e
 
 abbrev pub first : {A : Type 0} → List A → Option A
 first [] = None

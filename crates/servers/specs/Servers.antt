@@ -9,10 +9,9 @@ use Rattle.stamps.specs.Stamps.{top_stamp, time_of}
 use Rattle.servers.specs.Entries.{entry_stamp}
 use Rattle.servers.specs.declared.entry.Entry.{Entry}
 use Rattle.servers.specs.declared.entry.Entry.TheVariants.{Heartbeat, Update}
-use Rattle.servers.specs.Held.{versions_of}
 use Rattle.servers.specs.Others.{is_other}
 use Rattle.servers.specs.Outboxes.{Queues, issue_entry, empty_queues, is_outbox_full, take_entry, queues_of}
-use Rattle.servers.specs.Tables.{is_covered, latest, is_table_full, table_tidy, is_visible}
+use Rattle.servers.specs.Tables.{is_covered, latest, is_table_full, table_tidy, is_visible, versions_of}
 use Rattle.servers.specs.declared.value.Value.{Value}
 use Rattle.servers.specs.declared.version.Version.{Version}
 use Rattle.servers.specs.declared.server.Server.{Server}

@@ -1,10 +1,15 @@
 -- Tables of versions: the latest that is shown, and tidying.
-use Rattle.std.specs.Prelude.{ℕ, ◌-◌, Bool, if◌then◌else◌, not, ◌&&◌, ◌||◌, List, [], ◌∷◌, ◌++◌, length, Some, None, Option, ◌==◌, nat_le, filter}
+use Rattle.std.specs.Prelude.{ℕ, ◌-◌, Bool, if◌then◌else◌, not, ◌&&◌, ◌||◌, List, [], ◌∷◌, length, Some, None, Option, ◌==◌, nat_le, filter}
 use Rattle.std.specs.List.{list_any}
 use Rattle.stamps.specs.Rows.{PerSite, covers}
 use Rattle.stamps.specs.Kinds.{Kind}
 use Rattle.servers.specs.Versions.{is_later, full_mark}
+use Rattle.servers.specs.declared.table.VersionTable.{VersionTable}
 use Rattle.servers.specs.declared.version.Version.{Version}
+
+-- the versions of a table, in order of arrival
+abbrev pub versions_of : VersionTable → List Version
+versions_of t = t.versions.items
 
 -- the mark of this row covers the version
 abbrev pub is_covered : Kind → PerSite → Version → Bool
@@ -16,16 +21,16 @@ is_visible k site stable v = v.source == site || is_covered k stable v
 
 -- the better of what was found before and one version more: it has to be of the key, and shown
 abbrev pub better_of : (Version → Bool) → ℕ → Option Version → Version → Option Version
-better_of shows key None v = if v.key == key && shows v then Some v else None
-better_of shows key (Some best) v = if v.key == key && (shows v && is_later v best) then Some v else Some best
+better_of test key None v = if v.key == key && test v then Some v else None
+better_of test key (Some best) v = if v.key == key && (test v && is_later v best) then Some v else Some best
 
 -- the latest of a key that is shown
 abbrev pub latest_from : (Version → Bool) → ℕ → Option Version → List Version → Option Version
-latest_from shows key found [] = found
-latest_from shows key found (v ∷ vs) = latest_from shows key (better_of shows key found v) vs
+latest_from test key found [] = found
+latest_from test key found (v ∷ vs) = latest_from test key (better_of test key found v) vs
 
 abbrev pub latest : (Version → Bool) → ℕ → List Version → Option Version
-latest shows key vs = latest_from shows key None vs
+latest test key vs = latest_from test key None vs
 
 -- a later version of its key in the table is covered by the safe mark
 abbrev pub is_outdated_by : Kind → PerSite → Version → Version → Bool
@@ -45,7 +50,3 @@ table_tidy k safe vs = (length vs - length (versions_kept k safe vs), versions_k
 -- a server holds at most 32 versions
 abbrev pub is_table_full : List Version → Bool
 is_table_full vs = nat_le 32 (length vs)
-
--- one version more, if there is room
-abbrev pub kept_if_room : List Version → Version → List Version
-kept_if_room vs v = if is_table_full vs then vs else vs ++ v ∷ []

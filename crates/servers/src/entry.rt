@@ -1,16 +1,24 @@
-// What a server sends to the other sites.
+//! What a server sends to the other sites.
 ghost use Rattle.std.specs.Prelude.{◌≡◌};
 ghost use Rattle.servers.specs.Entries.{entry_stamp};
 
 use crate::version::Version;
 use stamps::stamp::Stamp;
 
+/// An entry of an outbox.
 #[derive(Clone, Copy)]
 pub enum Entry {
-    // A version that was put.
+    /// A version that was put.
     Update(Version),
-    // The server has reached this stamp: what it makes from here on has a higher one.
+    /// The server has reached this stamp: what it makes from here on has a higher one.
     Heartbeat(Stamp),
+}
+
+/// What stands in an unused place of an outbox.
+impl Default for Entry {
+    fn default() -> Entry {
+        Entry::Update(Version::default())
+    }
 }
 
 impl Entry {

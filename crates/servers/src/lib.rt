@@ -1,4 +1,4 @@
-// One server of one site: its versions, its outbox, its marks and its clock.
+//! One server of one site: its versions, its outbox, its marks and its clock.
 #![tactic(auto)]
 
 mod counts;
@@ -7,8 +7,8 @@ mod outbox;
 mod peers;
 pub mod percent;
 pub mod server;
-mod sight;
 pub mod site_count;
 mod table;
 pub mod value;
 pub mod version;
+mod version_test;

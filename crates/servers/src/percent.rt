@@ -1,23 +1,28 @@
-// A percentage in hundredths.
-use std::marker::Model;
+//! Percentages.
+ghost use Rattle.std.specs.Prelude.{◌≡◌, ◌≤◌};
 
-// From 0 to 10,000.
-#[derive(Clone, Copy)]
+use stamps::refusal::Refusal;
+
+/// A percentage in hundredths, from 0 to 10,000.
+#[derive(Clone, Copy, Debug, PartialEq, Eq, Hash)]
 pub struct Percent {
-    pub(crate) hundredths: u32,
+    /// At most 10,000.
+    pub hundredths: u32,
+    ghost in_range: { hundredths ≤ 10000 },
 }
 
-// In clauses a percentage is its hundredths.
-impl Model for Percent {
-    ghost use Rattle.std.specs.Prelude.{ℕ, ◌≤◌};
+/// The percentage of so many hundredths; refused as `Unlawful` above 10,000.
+impl TryFrom<u32> for Percent {
+    ghost use Rattle.servers.specs.Percents.{checked_percent};
 
-    ghost Value = { ℕ };
+    type Error = Refusal;
 
-    ghost view = { λ p. p.hundredths };
+    ghost try_from_gives = { λ hundredths percent. percent ≡ checked_percent hundredths };
 
-    ghost invariant = { λ p. p.hundredths ≤ 10000 };
-
-    ghost inverse = { λ n. record { hundredths = n } };
+    fn try_from(hundredths: u32) -> Result<Percent, Refusal> {
+        if hundredths > 10_000 {
+            return Err(Refusal::Unlawful);
+        }
+        Ok(Percent { hundredths })
+    }
 }
-
-mod methods;

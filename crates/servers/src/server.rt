@@ -1,4 +1,4 @@
-// One server: a site's replica of one partition.
+//! One server: a site's replica of one partition.
 use crate::outbox::Outbox;
 use crate::table::VersionTable;
 use stamps::clock_rule::ClockRule;
@@ -9,7 +9,7 @@ use std::marker::PhantomData;
 
 // Marks are kept as their rows. The received row has the last stamp at the server's own site, at another site the stamp
 // of the latest entry taken from there, and the greatest stamp at a site that the layout lacks.
-#[derive_where(Clone, Copy)]
+#[derive(Drop)]
 pub struct Server<C: ClockRule, K: MarkKind> {
     reading: Reading,
     received: Row,

@@ -1,7 +1,11 @@
-// How many sites a group has.
+//! How many sites a group has.
+ghost use Rattle.std.specs.Prelude.{◌≡◌, ◌≤◌};
+ghost use Rattle.servers.specs.SiteCounts.{checked_count};
+
+use stamps::refusal::Refusal;
 use std::marker::Model;
 
-// From 2 to 4.
+/// From 2 to 4.
 #[derive(Clone, Copy)]
 pub struct SiteCount {
     number: u8,
@@ -20,4 +24,26 @@ impl Model for SiteCount {
     ghost inverse = { λ n. record { number = n } };
 }
 
-mod methods;
+/// The count of a plain number; refused as `BadLayout` unless it is 2 to 4.
+impl TryFrom<u8> for SiteCount {
+    type Error = Refusal;
+
+    ghost try_from_gives = { λ number count. count ≡ checked_count number };
+
+    fn try_from(number: u8) -> Result<SiteCount, Refusal> {
+        if number < 2 || number > 4 {
+            return Err(Refusal::BadLayout);
+        }
+        Ok(SiteCount { number })
+    }
+}
+
+impl SiteCount {
+    /// The plain number, 2 to 4.
+    pub fn number(self) -> u8
+        ensures value { result ≡ self }
+        ensures few { result ≤ 4 }
+    {
+        self.number
+    }
+}

@@ -1,16 +1,93 @@
-// The versions that a server holds, in order of arrival.
+//! The versions that a server holds, in order of arrival.
+ghost use Rattle.std.specs.Prelude.{◌≡◌, ◌+◌, ◌≤◌, false, [], ◌∷◌, ◌++◌, length};
+ghost use Rattle.servers.specs.Tables.{latest as latest_of, is_table_full, table_tidy, versions_of};
+ghost use Rattle.servers.specs.Laws.{IsLatest, IsTidied};
+
 use crate::version::Version;
-use fixed_vec::FixedVec;
+use crate::version_test::VersionTest;
+use arrayvec::ArrayVec;
+use stamps::mark_kind::MarkKind;
 
-// A server holds at most this many versions.
-pub const MOST_VERSIONS: usize = 32;
-
-#[derive(Clone, Copy)]
-pub(crate) struct VersionTable {
-    versions: FixedVec<Version, MOST_VERSIONS>,
-}
-
-mod methods;
 mod needed;
 
-pub(crate) use needed::Needed;
+use needed::Needed;
+
+/// A server holds at most this many versions.
+pub const MOST_VERSIONS: usize = 32;
+
+#[derive(Drop)]
+pub(crate) struct VersionTable {
+    versions: ArrayVec<Version, MOST_VERSIONS>,
+}
+
+impl VersionTable {
+    pub(crate) fn new() -> VersionTable
+        ensures { versions_of result ≡ [] }
+    {
+        VersionTable {
+            versions: ArrayVec::new(),
+        }
+    }
+
+    pub(crate) fn is_full(&self) -> bool
+        ensures { result ≡ is_table_full (versions_of self.now) }
+    {
+        self.versions.is_full()
+    }
+
+    // One version more, at the end.
+    pub(crate) fn keep(&mut self, version: &Version)
+        requires { is_table_full (versions_of self.old) ≡ false }
+        ensures { versions_of self.new ≡ versions_of self.old ++ version.now ∷ [] }
+    {
+        self.versions.push(*version);
+    }
+
+    // Drops every version that has a later one of its key that the safe mark covers, and answers how many.
+    pub(crate) fn tidy<K: MarkKind>(&mut self, safe: K::Mark) -> usize
+        ensures step { (result, versions_of self.new) ≡ table_tidy K.MarkKind.kind (K.MarkKind.meaning safe) (versions_of self.old) }
+        ensures law { IsTidied K.MarkKind.kind (K.MarkKind.meaning safe) (versions_of self.old) (versions_of self.new) result }
+    {
+        let mut before = ArrayVec::new();
+        append(&mut before, self.versions.as_slice());
+        let needed = Needed::<K> {
+            versions: before.as_slice(),
+            safe,
+        };
+        self.versions.retain(|version| !needed.is_outdated(version));
+        before.len() - self.versions.len()
+    }
+
+    // The latest version of a key that passes a test. The search keeps its place, and copies one version at the end.
+    pub(crate) fn latest<T: VersionTest>(&self, key: u16, test: &T) -> Option<Version>
+        ensures value { result ≡ latest_of (T.VersionTest.passes test.now) key (versions_of self.now) }
+        ensures law { IsLatest (T.VersionTest.passes test.now) key (versions_of self.now) result }
+    {
+        let versions = self.versions.as_slice();
+        let mut found = None;
+        for (i, version) in versions.iter().enumerate() {
+            if version.key == key && test.passes(version) {
+                found = match found {
+                    None => Some(i),
+                    Some(best) => if version.is_later(&versions[best]) {
+                        Some(i)
+                    } else {
+                        Some(best)
+                    },
+                };
+            }
+        }
+        let Some(index) = found else {
+            return None;
+        };
+        Some(versions[index])
+    }
+}
+
+// Puts versions at the end of others, where there is room.
+fn append(held: &mut ArrayVec<Version, MOST_VERSIONS>, versions: &[Version])
+    requires { length held.old.items + length versions.now ≤ 32 }
+    ensures { held.new.items ≡ held.old.items ++ versions.now }
+{
+    held.try_extend_from_slice(versions).unwrap();
+}

@@ -1,16 +1,17 @@
-// What a version says of its key.
+//! What a version says of its key.
 ghost use Rattle.std.specs.Prelude.{◌≡◌};
-ghost use Rattle.servers.specs.Values.{value_from, kind_of, amount_of, amount_of_basis};
+ghost use Rattle.servers.specs.Bases.{amount_of_basis};
+ghost use Rattle.servers.specs.Values.{value_from, amount_of};
 
 use crate::percent::Percent;
 use stamps::refusal::Refusal;
 
-// What a percentage is measured against.
-#[derive(Clone, Copy)]
+/// What a percentage is measured against.
+#[derive(Clone, Copy, Debug, PartialEq, Eq, Hash)]
 pub enum Basis {
-    // The finished part.
+    /// The finished part.
     Part = 0,
-    // The whole sheet.
+    /// The whole sheet.
     Sheet = 1,
 }
 
@@ -22,18 +23,22 @@ impl Basis {
     }
 }
 
-#[derive(Clone, Copy)]
+/// What is said of a key: one case for each kind.
+#[derive(Clone, Copy, Debug, Default, PartialEq, Eq, Hash)]
 pub enum Value {
-    // The key has no value any more.
+    /// The key has no value any more.
+    #[default]
     Gone,
-    // In cents.
+    /// A price in cents.
     Price(u32),
+    /// A percentage of scrap.
     Percent(Percent),
+    /// What the percentages of a shop are measured against.
     Basis(Basis),
 }
 
 impl Value {
-    // The value of a kind byte and an amount, as a script has them, if there is one.
+    /// The value of a kind byte and an amount, as a script has them; refused as `Unlawful` if there is none.
     pub fn new(kind: u8, amount: u32) -> Result<Value, Refusal>
         ensures { result ≡ value_from kind amount }
     {
@@ -47,19 +52,7 @@ impl Value {
         }
     }
 
-    // Its kind byte in a script.
-    pub fn kind(self) -> u8
-        ensures { result ≡ kind_of self }
-    {
-        match self {
-            Value::Gone => 0,
-            Value::Price(_) => 1,
-            Value::Percent(_) => 2,
-            Value::Basis(_) => 3,
-        }
-    }
-
-    // Its amount in a script.
+    /// Its amount in a script: cents, hundredths, 0 or 1 for a basis, and 0 where there is no value.
     pub fn amount(self) -> u32
         ensures { result ≡ amount_of self }
     {

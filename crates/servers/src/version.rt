@@ -1,4 +1,4 @@
-// One value of a key, as it was put.
+//! One value of a key, as it was put.
 ghost use Rattle.std.specs.Prelude.{◌≡◌};
 ghost use Rattle.servers.specs.Versions.{is_later, full_mark};
 
@@ -8,8 +8,9 @@ use stamps::row::Row;
 use stamps::site::Site;
 use stamps::stamp::Stamp;
 
-// The source is the site of the put. The mark, kept as its row, stands for what the writer depended on.
-#[derive(Clone, Copy)]
+/// A version: a value of a key with its stamp and its source, the site of the put. Its mark, kept as its row, stands for
+/// what the writer depended on.
+#[derive(Clone, Copy, Default)]
 pub struct Version {
     pub(crate) key: u16,
     pub(crate) value: Value,
@@ -19,18 +20,21 @@ pub struct Version {
 }
 
 impl Version {
+    /// What it says of its key.
     pub fn value(&self) -> Value
         ensures { result ≡ self.now.value }
     {
         self.value
     }
 
+    /// The stamp that its put was answered.
     pub fn stamp(&self) -> Stamp
         ensures { result ≡ self.now.stamp }
     {
         self.stamp
     }
 
+    /// The site of its put.
     pub fn source(&self) -> Site
         ensures { result ≡ self.now.source }
     {
@@ -44,7 +48,7 @@ impl Version {
         (self.stamp, self.source) > (other.stamp, other.source)
     }
 
-    // The mark of the version and of what its writer depended on: whoever has seen it depends on these.
+    /// The mark of the version and of what its writer depended on: whoever has seen it depends on these.
     pub fn full_mark<K: MarkKind>(&self) -> K::Mark
         ensures { K.MarkKind.meaning result ≡ full_mark K.MarkKind.kind self.now }
     {

@@ -1,12 +1,14 @@
 -- The capacities and ranges, from the invariant.
-use Rattle.std.proofs.Common.{◌≡◌, ℕ, ◌^◌, ◌<◌, ◌&&◌, eqb, leb, ltb, [], ◌∷◌, Ok, Err, Result, sym, subst, inl, inr, arith}
-use Rattle.std.proofs.lemmas.Bool.{and_parts, cond_both, leb-true, ltb-true}
+use Rattle.std.proofs.Common.{◌≡◌, ℕ, ◌^◌, ◌<◌, ◌&&◌, eqb, ltb, [], ◌∷◌, Ok, Err, Result, sym, subst, inl, inr, arith}
+use Rattle.std.specs.Result.{result_map_both}
+use Rattle.std.proofs.lemmas.Bool.{and_parts, cond_both, ltb-true}
 use Rattle.stamps.specs.declared.refusal.Refusal.{Refusal}
 use Rattle.stamps.specs.declared.refusal.Refusal.TheVariants.{Unlawful}
 use Rattle.stamps.specs.Kinds.{Kind, IsMark}
 use Rattle.servers.specs.declared.entry.Entry.{Entry}
 use Rattle.servers.specs.declared.entry.Entry.TheVariants.{Update, Heartbeat}
 use Rattle.servers.specs.Laws.{IsIn}
+use Rattle.servers.specs.Percents.{checked_percent}
 use Rattle.servers.specs.Values.{value_from}
 use Rattle.servers.specs.declared.value.Value.{Value}
 use Rattle.servers.specs.declared.value.Value.TheVariants.{Gone, Price, Percent, Basis as BasisOf}
@@ -26,11 +28,15 @@ abbrev MadeInRange : Result Value Refusal → Type 0
 MadeInRange (Ok x) = IsInRange x
 MadeInRange (Err why) = Unit {0}
 
+percent_in_range : (r : Result _ Refusal) → MadeInRange (result_map_both Percent (λ why. why) r)
+percent_in_range (Ok percent) = percent.in_range
+percent_in_range (Err why) = tt
+
 made_in_range : (kind amount : ℕ) → MadeInRange (value_from kind amount)
 made_in_range kind amount =
     cond_both {A = Result Value Refusal} (eqb kind 0 && eqb amount 0) (Ok Gone) _ MadeInRange (λ _. tt)
     (λ _. cond_both {A = Result Value Refusal} (eqb kind 1 && ltb amount (2 ^ 32)) (Ok (Price amount)) _ MadeInRange (λ e. ltb-true amount (2 ^ 32) (and_parts (eqb kind 1) (ltb amount (2 ^ 32)) e).1)
-    (λ _. cond_both {A = Result Value Refusal} (eqb kind 2 && leb amount 10000) (Ok (Percent amount)) _ MadeInRange (λ e. leb-true amount 10000 (and_parts (eqb kind 2) (leb amount 10000) e).1)
+    (λ _. cond_both {A = Result Value Refusal} (eqb kind 2) (result_map_both Percent (λ why. why) (checked_percent amount)) _ MadeInRange (λ _. percent_in_range (checked_percent amount))
     (λ _. cond_both {A = Result Value Refusal} (eqb kind 3 && eqb amount 0) (Ok (BasisOf Part)) _ MadeInRange (λ _. tt)
     (λ _. cond_both {A = Result Value Refusal} (eqb kind 3 && eqb amount 1) (Ok (BasisOf Sheet)) (Err Unlawful) MadeInRange (λ _. tt) (λ _. tt)))))
 

@@ -36,7 +36,7 @@ may_see k g i v = sees k (informed_server k g (session_at g i) (partition_of g v
 abbrev pub IsInRange : Value → Type 0
 IsInRange Gone = Unit {0}
 IsInRange (Price cents) = cents < 2 ^ 32
-IsInRange (Percent hundredths) = hundredths ≤ 10000
+IsInRange (Percent percent) = percent.hundredths ≤ 10000
 IsInRange (BasisOf Part) = Unit {0}
 IsInRange (BasisOf Sheet) = Unit {0}
 

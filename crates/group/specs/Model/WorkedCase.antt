@@ -1,9 +1,10 @@
 -- A worked case: a percentage overtakes its basis on the way to another site, and is not shown before it.
-use Rattle.std.specs.Prelude.{◌≡◌, List, [], ◌∷◌, map, reverse, Some, None, Ok, Err}
+use Rattle.std.specs.Prelude.{◌≡◌, List, [], ◌∷◌, map, reverse, Some, None, Ok, Err, refl}
 use Rattle.stamps.specs.declared.refusal.Refusal.TheVariants.{NothingWaits}
 use Rattle.stamps.specs.Clocks.{hybrid}
 use Rattle.stamps.specs.Stamps.{stamp_of}
 use Rattle.stamps.specs.BuiltKinds.{each_kind}
+use Rattle.servers.specs.Percents.{percent_of}
 use Rattle.servers.specs.declared.value.Value.TheVariants.{Percent, Basis as BasisOf}
 use Rattle.servers.specs.declared.value.Basis.TheVariants.{Sheet}
 use Rattle.group.specs.Model.Events.{Event, Call, open_session, tell, put, get, heartbeat, deliver, report, stabilise}
@@ -31,7 +32,7 @@ worked_events =
     ∷ record { call = deliver 0 1 0; answer = Ok tt }
     ∷ record { call = report 1 0; answer = Ok tt }
     ∷ record { call = stabilise 1 1; answer = Ok tt }
-    ∷ record { call = get 1 3; answer = Ok (Some (record { value = Percent 1200; stamp = stamp_of 100 1; source = 0 })) }
+    ∷ record { call = get 1 3; answer = Ok (Some (record { value = Percent (percent_of 1200 refl); stamp = stamp_of 100 1; source = 0 })) }
     ∷ record { call = get 1 2; answer = Ok (Some (record { value = (BasisOf Sheet); stamp = stamp_of 100 0; source = 0 })) }
     ∷ record { call = deliver 0 1 0; answer = Err NothingWaits }
     ∷ []

@@ -1,4 +1,4 @@
-// A server's part of the calls that tell its clock, write, and send and take entries.
+//! A server's part of the calls that tell its clock, write, and send and take entries.
 ghost use Rattle.std.specs.Prelude.{◌≡◌, ◌==◌};
 ghost use Rattle.stamps.specs.Refusals.{RefusalKeeps};
 ghost use Rattle.servers.specs.Laws.{IsAbove};

@@ -1,4 +1,4 @@
-// The making of a server.
+//! The making of a server.
 ghost use Rattle.std.specs.Prelude.{◌≡◌};
 ghost use Rattle.servers.specs.Laws.{StaysQueue, StampsRise};
 ghost use Rattle.servers.specs.Servers.{view, new_server, first_received, first_entry};
@@ -8,8 +8,6 @@ use crate::outbox::Outbox;
 use crate::peers::Peers;
 use crate::site_count::SiteCount;
 use crate::table::VersionTable;
-use crate::value::Value;
-use crate::version::Version;
 use stamps::clock_rule::ClockRule;
 use stamps::mark_kind::MarkKind;
 use stamps::reading::Reading;
@@ -19,7 +17,9 @@ use stamps::stamp::Stamp;
 use std::marker::PhantomData;
 
 impl<C: ClockRule, K: MarkKind> Server<C, K> {
-    // A server that holds nothing, and has received nothing from the sites of its layout.
+    /// A server that holds nothing, and has received nothing from the sites of its layout. Never inlined: a group would
+    /// hold sixteen copies of the code that fills its tables.
+    #[inline(never)]
     pub fn new(site: Site, sites: SiteCount) -> Self
         ensures state { view result ≡ new_server site sites }
         ensures queues { StaysQueue site sites }
@@ -27,19 +27,12 @@ impl<C: ClockRule, K: MarkKind> Server<C, K> {
     {
         stamps_rise::<C, K>(site, sites);
         let zero = Row::same(Stamp::zero());
-        let filler = Version {
-            key: 0,
-            value: Value::Gone,
-            stamp: Stamp::zero(),
-            source: site,
-            mark: zero,
-        };
         Server {
             reading: Reading::zero(),
             received: first_received(sites),
             reported: zero,
             stable: zero,
-            table: VersionTable::new(filler),
+            table: VersionTable::new(),
             outbox: Outbox::new(Peers { own: site, sites }),
             rule: PhantomData,
             kind: PhantomData,

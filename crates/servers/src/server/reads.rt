@@ -1,46 +1,46 @@
-// Where a server stands, and its part of the calls that look for versions and drop them.
+//! Where a server stands, and its part of the calls that look for versions and drop them.
 ghost use Rattle.std.specs.Prelude.{◌≡◌};
 ghost use Rattle.servers.specs.Laws.{IsLatest, IsTidied};
 ghost use Rattle.servers.specs.Tables.{is_covered};
 ghost use Rattle.servers.specs.Servers.{view, sees, latest_visible, latest_covered, server_tidy};
 
 use super::Server;
-use crate::sight::{Covered, Visible};
 use crate::version::Version;
+use crate::version_test::{Covered, Visible};
 use stamps::clock_rule::ClockRule;
 use stamps::mark_kind::MarkKind;
 use stamps::site::Site;
 
 impl<C: ClockRule, K: MarkKind> Server<C, K> {
-    // The site that it stands at.
+    /// The site that it stands at.
     pub fn site(&self) -> Site
         ensures { result ≡ (view self.now).site }
     {
         self.outbox.own()
     }
 
-    // The latest version of a key that is local or that the stable mark covers.
+    /// The latest version of a key that is local or that the stable mark covers.
     pub fn latest_visible(&self, key: u16) -> Option<Version>
         ensures value { result ≡ latest_visible K.MarkKind.kind (view self.now) key }
         ensures law { IsLatest (sees K.MarkKind.kind (view self.now)) key (view self.now).held result }
     {
-        let sight = Visible::<K> {
+        let test = Visible::<K> {
             site: self.outbox.own(),
             stable: K::floor(self.stable),
         };
-        self.table.latest(key, &sight)
+        self.table.latest(key, &test)
     }
 
-    // The latest version of a key that a cut covers.
+    /// The latest version of a key that a cut covers.
     pub fn latest_covered(&self, key: u16, cut: K::Mark) -> Option<Version>
         ensures value { result ≡ latest_covered K.MarkKind.kind (view self.now) key (K.MarkKind.meaning cut) }
         ensures law { IsLatest (is_covered K.MarkKind.kind (K.MarkKind.meaning cut)) key (view self.now).held result }
     {
-        let sight = Covered::<K> { cut };
-        self.table.latest(key, &sight)
+        let test = Covered::<K> { cut };
+        self.table.latest(key, &test)
     }
 
-    // Drops the versions that are not needed any more under the safe mark, and answers how many.
+    /// Drops the versions that are not needed any more under the safe mark, and answers how many.
     pub fn tidy(&mut self, safe: K::Mark) -> usize
         ensures step { (result, view self.new) ≡ server_tidy K.MarkKind.kind (view self.old) (K.MarkKind.meaning safe) }
         ensures law { IsTidied K.MarkKind.kind (K.MarkKind.meaning safe) (view self.old).held (view self.new).held result }

@@ -1,9 +1,8 @@
-// Which versions tidying keeps.
-ghost use Rattle.std.specs.Prelude.{◌≡◌, not};
+//! Which versions tidying drops.
+ghost use Rattle.std.specs.Prelude.{◌≡◌};
 ghost use Rattle.servers.specs.Tables.{is_outdated, is_outdated_by};
 
 use crate::version::Version;
-use fixed_vec::Keeps;
 use stamps::mark_kind::MarkKind;
 
 // The versions as they were before tidying, and the safe mark.
@@ -13,17 +12,9 @@ pub(crate) struct Needed<'a, K: MarkKind> {
     pub(crate) safe: K::Mark,
 }
 
-impl<'a, K: MarkKind> Keeps<Version> for Needed<'a, K> {
-    ghost keeps = { λ s v. not (is_outdated K.MarkKind.kind (K.MarkKind.meaning s.safe) s.versions.now v) };
-
-    fn keeps(&self, item: &Version) -> bool {
-        !self.is_outdated(item)
-    }
-}
-
 impl<'a, K: MarkKind> Needed<'a, K> {
     // Whether a version of the table replaces the item.
-    fn is_outdated(&self, item: &Version) -> bool
+    pub(crate) fn is_outdated(&self, item: &Version) -> bool
         ensures { result ≡ is_outdated K.MarkKind.kind (K.MarkKind.meaning self.now.safe) self.now.versions.now item.now }
     {
         self.versions.iter().any(|other| self.replaces(other, item))

@@ -1,6 +1,5 @@
 use Rattle.std.proofs.Common.{◌≡◌, ◌-◌, ◌≤◌, length, drop, sym, refl, ap, ◌∙◌, subst, arith}
 use Rattle.std.proofs.lemmas.List.{length-drop}
-use Rattle.fixed_vec.specs.Items.{items}
 use Rattle.stamps.specs.Rows.{greatest}
 use Rattle.servers.specs.Lefts.{IsOthersOnly}
 use Rattle.servers.specs.Outboxes.{last_for}
@@ -10,7 +9,7 @@ use Rattle.servers.proofs.outbox.Outbox.take.Goals as goal
 pub invariant_of-self : goal.invariant_of-self
 invariant_of-self c =
     let o = c.args.self.now in
-    let es = items o.entries in
+    let es = o.entries.items in
     let after = fewer_counts o.peers.own o.peers.sites c.args.site o.left (length es) (omega arith) o.others o.needed in
     let left = c.one_less-left.ensures in
     let most = ap greatest left in
@@ -21,10 +20,17 @@ invariant_of-self c =
       needed = omega (arith, c.greatest.ensures, most, kept, after.1);
     }
 
+-- at most one entry is gone
+pub keep_last-requires : goal.keep_last-requires
+keep_last-requires c =
+    let o = c.args.self.now in
+    let after = fewer_counts o.peers.own o.peers.sites c.args.site o.left (length o.entries.items) (omega arith) o.others o.needed in
+    omega (arith, c.greatest.ensures, ap greatest c.one_less-left.ensures, after.2)
+
 pub returns : goal.returns
 returns c =
     let o = c.args.self.now in
-    let es = items o.entries in
+    let es = o.entries.items in
     let left = c.one_less-left.result in
     let after = fewer_counts o.peers.own o.peers.sites c.args.site o.left (length es) (omega arith) o.others o.needed in
     let few : greatest left ≤ length es = omega (arith, ap greatest c.one_less-left.ensures, after.1) in

@@ -1,34 +1,34 @@
 use Rattle.std.proofs.Common.{◌≡◌, ℕ, ◌<◌, ◌≤◌, Bool, List, length, get_or, Some, None, Option, refl, sym, ap, ◌∙◌, subst, arith}
 use Rattle.std.proofs.lemmas.List.{get_or_default, get_or_read_under}
 use Rattle.std.proofs.lemmas.Bool.Decides.{nat_tests}
-use Rattle.servers.specs.Held.{versions_of}
+use Rattle.servers.specs.Tables.{versions_of}
 use Rattle.servers.specs.Laws.{IsLatest}
 use Rattle.servers.specs.declared.version.Version.{Version}
 use Rattle.servers.specs.Tables.{better_of, latest}
 use Rattle.servers.proofs.Latest.{latest_law}
 use Rattle.servers.proofs.Seeking.{nothing, seek_all, seek_more, standing, stands, within}
 use Rattle.servers.proofs.table.VersionTable.latest.Goals as goal
-use Rattle.servers.proofs.table.VersionTable.latest.Goals.{then-version-key+then-shows+in-None, then-version-key+then-shows+in-Some+then-is_later, then-version-key+then-shows+in-Some+else-is_later, else-version-key, else-version-key-via-then-version-key+else-shows, else-version-key-via-else-version-key}
+use Rattle.servers.proofs.table.VersionTable.latest.Goals.{then-version-key+then-passes+in-None, then-version-key+then-passes+in-Some+then-is_later, then-version-key+then-passes+in-Some+else-is_later, else-version-key, else-version-key-via-then-version-key+else-passes, else-version-key-via-else-version-key}
 
 -- what was found after a turn is a place, and it is the better one
 turn : (g : _) (c : goal.Joined-version-key g)
     → within c.if-version-key.found (length c.as_slice-versions.result.now)
     × (standing nothing c.as_slice-versions.result.now c.if-version-key.found
-    ≡ better_of (g.S.Sight.shows c.args.sight.now) c.args.key (standing nothing c.as_slice-versions.result.now c.loop-i.found) (get_or c.as_slice-versions.result.now c.loop-i.i nothing))
+    ≡ better_of (g.T.VersionTest.passes c.args.test.now) c.args.key (standing nothing c.as_slice-versions.result.now c.loop-i.found) (get_or c.as_slice-versions.result.now c.loop-i.i nothing))
 turn g c =
     let vs = c.as_slice-versions.result.now in
     let here = get_or_read_under vs c.loop-i.i (length vs) c.index-versions-i.result nothing c.index-versions-i.is c.loop-i-test.true refl in
     elim c.if-version-key.branch [
-      | then-version-key+then-shows+in-None w ↦ grind (arith, nat_tests, here)
-      | then-version-key+then-shows+in-Some+then-is_later w ↦
+      | then-version-key+then-passes+in-None w ↦ grind (arith, nat_tests, here)
+      | then-version-key+then-passes+in-Some+then-is_later w ↦
           let there = get_or_default vs w.in-Some.best w.index-versions-best.result nothing in
           grind (arith, nat_tests, here, there)
-      | then-version-key+then-shows+in-Some+else-is_later w ↦
+      | then-version-key+then-passes+in-Some+else-is_later w ↦
           let there = get_or_default vs w.in-Some.best w.index-versions-best.result nothing in
           grind (arith, nat_tests, here, there)
       | else-version-key w ↦
           elim w.else-version-key.branch [
-            | else-version-key-via-then-version-key+else-shows w' ↦ grind (arith, nat_tests, here)
+            | else-version-key-via-then-version-key+else-passes w' ↦ grind (arith, nat_tests, here)
             | else-version-key-via-else-version-key w' ↦ grind (arith, nat_tests, here)
           ]
     ]
@@ -38,28 +38,28 @@ loop-i-preserved g c =
     let vs = c.as_slice-versions.result.now in
     let t = turn g c in
     let lt : c.loop-i.i < length vs = c.loop-i-test.true in
-    (t.0, seek_more (g.S.Sight.shows c.args.sight.now) c.args.key nothing vs c.loop-i.i c.loop-i.found c.if-version-key.found lt t.1 c.loop-i.invariant.1)
+    (t.0, seek_more (g.T.VersionTest.passes c.args.test.now) c.args.key nothing vs c.loop-i.i c.loop-i.found c.if-version-key.found lt t.1 c.loop-i.invariant.1)
 
 -- the answer is the latest, so it has what the law says
-lawful : (shows : Version → Bool) (key : ℕ) (vs : List Version) (r : Option Version) → r ≡ latest shows key vs → IsLatest shows key vs r
-lawful shows key vs r e = subst (IsLatest shows key vs) (sym e) (latest_law shows key vs)
+lawful : (test : Version → Bool) (key : ℕ) (vs : List Version) (r : Option Version) → r ≡ latest test key vs → IsLatest test key vs r
+lawful test key vs r e = subst (IsLatest test key vs) (sym e) (latest_law test key vs)
 
 pub returns-in_default : goal.returns-in_default
 returns-in_default g c =
     let vs = c.as_slice-versions.result.now in
-    let shows = g.S.Sight.shows c.args.sight.now in
+    let test = g.T.VersionTest.passes c.args.test.now in
     let le : length vs ≤ c.loop-i.i = c.loop-i-test.false in
-    let is = ap (standing nothing vs) (sym c.in_default.is) ∙ seek_all shows c.args.key nothing vs c.loop-i.i c.loop-i.found le c.loop-i.invariant.1 ∙ ap (λ xs. latest shows c.args.key xs) c.as_slice-versions.ensures in
-    record { value = is; law = lawful shows c.args.key (versions_of c.args.self.now) None is }
+    let is = ap (standing nothing vs) (sym c.in_default.is) ∙ seek_all test c.args.key nothing vs c.loop-i.i c.loop-i.found le c.loop-i.invariant.1 ∙ ap (λ xs. latest test c.args.key xs) c.as_slice-versions.ensures.value in
+    record { value = is; law = lawful test c.args.key (versions_of c.args.self.now) None is }
 
 pub returns : goal.returns
 returns g c =
     let xs = c.as_slice-versions.result.now in
     let vs = xs in
-    let shows = g.S.Sight.shows c.args.sight.now in
+    let test = g.T.VersionTest.passes c.args.test.now in
     let le : length vs ≤ c.loop-i.i = c.loop-i-test.false in
     let inside = subst (λ o. within o (length xs)) c.in-Some-found.is c.loop-i.invariant.0 in
     let is =
     stands xs c.in-Some-found.index c.index-versions-index.result c.index-versions-index.is inside ∙ ap (standing nothing vs) (sym c.in-Some-found.is)
-    ∙ seek_all shows c.args.key nothing vs c.loop-i.i c.loop-i.found le c.loop-i.invariant.1 ∙ ap (λ ys. latest shows c.args.key ys) c.as_slice-versions.ensures in
-    record { value = is; law = lawful shows c.args.key (versions_of c.args.self.now) (Some c.index-versions-index.result) is }
+    ∙ seek_all test c.args.key nothing vs c.loop-i.i c.loop-i.found le c.loop-i.invariant.1 ∙ ap (λ ys. latest test c.args.key ys) c.as_slice-versions.ensures.value in
+    record { value = is; law = lawful test c.args.key (versions_of c.args.self.now) (Some c.index-versions-index.result) is }

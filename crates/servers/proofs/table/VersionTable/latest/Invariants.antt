@@ -6,7 +6,7 @@ use Rattle.servers.proofs.table.VersionTable.latest.Given as goal
 -- what is left leads from what was found to the answer
 abbrev pub invariant-loop-i : goal.invariant-loop-i
 invariant-loop-i g l =
-    let shows = g.S.Sight.shows l.sight in
+    let test = g.T.VersionTest.passes l.test in
     let vs = l.versions in
     within l.found (length l.versions)
-    × (latest_from shows l.key (standing nothing vs l.found) (drop l.i vs) ≡ latest shows l.key vs)
+    × (latest_from test l.key (standing nothing vs l.found) (drop l.i vs) ≡ latest test l.key vs)

@@ -1,4 +1,4 @@
-// Which versions are shown.
+//! Which versions a reader is shown.
 ghost use Rattle.std.specs.Prelude.{◌≡◌, Bool};
 ghost use Rattle.servers.specs.declared.version.Version.{Version};
 ghost use Rattle.servers.specs.Tables.{is_visible, is_covered};
@@ -8,12 +8,12 @@ use stamps::mark_kind::MarkKind;
 use stamps::site::Site;
 
 // A test of versions. A trait and no closure: tried, and at a call that passes a
-// closure what it shows cannot be picked for the contract.
-pub(crate) trait Sight {
-    ghost shows: { Self → Version → Bool };
+// closure what it passes cannot be picked for the contract.
+pub(crate) trait VersionTest {
+    ghost passes: { Self → Version → Bool };
 
-    fn shows(&self, version: &Version) -> bool
-        ensures { result ≡ shows self.now version.now };
+    fn passes(&self, version: &Version) -> bool
+        ensures { result ≡ passes self.now version.now };
 }
 
 // Local versions, and those whose full mark the stable mark covers.
@@ -23,10 +23,10 @@ pub(crate) struct Visible<K: MarkKind> {
     pub(crate) stable: K::Mark,
 }
 
-impl<K: MarkKind> Sight for Visible<K> {
-    ghost shows = { λ s. is_visible K.MarkKind.kind s.site (K.MarkKind.meaning s.stable) };
+impl<K: MarkKind> VersionTest for Visible<K> {
+    ghost passes = { λ s. is_visible K.MarkKind.kind s.site (K.MarkKind.meaning s.stable) };
 
-    fn shows(&self, version: &Version) -> bool {
+    fn passes(&self, version: &Version) -> bool {
         version.source == self.site || K::covers(self.stable, version.full_mark::<K>())
     }
 }
@@ -37,10 +37,10 @@ pub(crate) struct Covered<K: MarkKind> {
     pub(crate) cut: K::Mark,
 }
 
-impl<K: MarkKind> Sight for Covered<K> {
-    ghost shows = { λ s. is_covered K.MarkKind.kind (K.MarkKind.meaning s.cut) };
+impl<K: MarkKind> VersionTest for Covered<K> {
+    ghost passes = { λ s. is_covered K.MarkKind.kind (K.MarkKind.meaning s.cut) };
 
-    fn shows(&self, version: &Version) -> bool {
+    fn passes(&self, version: &Version) -> bool {
         K::covers(self.cut, version.full_mark::<K>())
     }
 }
