@@ -22,7 +22,7 @@ PATTERNS = {
         r'^impl.* (Clone|Copy) for', r'fn (max|min|is_later|is_at)\(', r'\.(value|number|time)(\(\))? (==|!=|<=?|>=?) ',
         r'^    pub fn new\(\w+: u\d+\) -> Result', r'fn (decimal|signed|byte|text|stamp|refusal|value|version|shown|read|basis|amount|answer)\(&mut self',
         r"=> b'"],
-    '6 buffers with a length, parallel arrays, indices': [r': \[[^\]]+; ?[\w:]+\]', r'FixedVec<\w+, \w+>', r'\bplace\(', r'&(mut )?\w+\[\w*\.\.'],
+    '6 buffers with a length, parallel arrays, indices': [r': \[[^\]]+; ?[\w:]+\]', r'ArrayVec<\w+, \w+>', r'\bplace\(', r'&(mut )?\w+\[\w*\.\.'],
     '7 switches and tables of steps': [r'^pub(\(crate\))? trait', r'\bdyn\b', r'fn\(', r'\w+::\w+\(group\) =>'],
 }
 

@@ -1,6 +1,0 @@
-// A vector of at most N items that are held in place.
-#![tactic(auto)]
-
-pub mod fixed_vec;
-
-pub use fixed_vec::{FixedVec, Full, Keeps};
