@@ -51,17 +51,20 @@ abbrev pub with_server_at : GroupState → Place → ServerState → GroupState
 with_server_at g place s = with_server g place.0 place.1 s
 
 -- what a call of the server at a place answers, and the group after it
-abbrev pub call_server_at : {A : Type 0} → GroupState → Place → (ServerState → Result A Refusal × ServerState) → Result A Refusal × GroupState
+abbrev pub call_server_at : {A : Type 0}
+    → GroupState → Place → (ServerState → Result A Refusal × ServerState) → Result A Refusal × GroupState
 call_server_at g place act = server_left g place.0 place.1 (act (server_at g place))
 
 -- the servers of a site, by partition
-abbrev pub IsServerList : {C K Mark : Type 0} {rule : _} {kind : _} → GroupParts C K Mark rule kind → ℕ → List (Server C K Mark) → Type 0
+abbrev pub IsServerList : {C K Mark : Type 0} {rule : _} {kind : _}
+    → GroupParts C K Mark rule kind → ℕ → List (Server C K Mark) → Type 0
 IsServerList g site servers =
     (length servers ≡ g.layout.partitions)
     × ((n : ℕ) (d : _) → n < length servers → server_view (slice_index_or servers n d) ≡ (view g).server site n)
 
 -- a row for each of the first servers, as a function gives it
-abbrev pub IsRowList : {C K Mark : Type 0} → (Server C K Mark → Row → Type 0) → (ℕ → ServerState) → ℕ → List Row → Type 0
+abbrev pub IsRowList : {C K Mark : Type 0}
+    → (Server C K Mark → Row → Type 0) → (ℕ → ServerState) → ℕ → List Row → Type 0
 IsRowList gives server zero rows = rows ≡ []
 IsRowList {C} {K} {Mark} gives server (suc n) rows =
     (before : List Row) × (s : Server C K Mark) × (row : Row)

@@ -1,5 +1,6 @@
 -- Open snapshots.
-use Rattle.std.specs.Prelude.{◌≡◌, ℕ, ◌<◌, if◌then◌else◌, List, length, slice_index_or, Some, None, Ok, Err, Option, Result, ◌==◌, nat_lt}
+use Rattle.std.specs.Prelude.{◌≡◌, ℕ, ◌<◌, if◌then◌else◌, List, length, slice_index_or, ◌==◌, nat_lt}
+use Rattle.std.specs.Prelude.{Some, None, Ok, Err, Option, Result}
 use Rattle.stamps.specs.declared.refusal.Refusal.{Refusal}
 use Rattle.stamps.specs.declared.refusal.Refusal.TheVariants.{NotOpen}
 use Rattle.stamps.specs.Rows.{PerSite}
@@ -21,4 +22,5 @@ open_at serial (Some y) = if y.serial == serial then Ok y else Err NotOpen
 
 -- each open snapshot is of one of so many sessions
 abbrev pub HasSessionsOf : ℕ → List (Option SeatState) → Type 0
-HasSessionsOf sessions seats = (seat : ℕ) (y : SeatState) → slice_index_or seats seat None ≡ Some y → y.session < sessions
+HasSessionsOf sessions seats =
+    (seat : ℕ) (y : SeatState) → slice_index_or seats seat None ≡ Some y → y.session < sessions

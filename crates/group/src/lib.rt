@@ -1,4 +1,5 @@
-// A group of sites, made from a checked layout, and the calls on it; the same in plain numbers, with its promises and their proof.
+//! A group of sites, made from a checked layout, and the calls on it; the same in plain numbers, with its promises and
+//! their proof.
 #![tactic(auto)]
 
 pub mod group;

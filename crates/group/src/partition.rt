@@ -1,8 +1,8 @@
-// The number of a partition.
+//! The number of a partition.
 use std::marker::Model;
 
-// From 0 to 3: a site has at most four servers.
-#[derive(Clone, Copy)]
+/// A partition, 0 to 3: a site has at most four servers.
+#[derive(Clone, Copy, Debug, PartialEq, Eq)]
 pub(crate) struct Partition {
     pub(crate) number: u8,
 }

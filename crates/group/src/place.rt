@@ -1,4 +1,4 @@
-// Where a server stands, and the sites of plain numbers.
+//! Where a server stands, and the sites of plain numbers.
 ghost use Rattle.std.specs.Prelude.{◌≡◌, ◌<◌};
 ghost use Rattle.group.specs.Places.{place_of};
 
@@ -6,8 +6,8 @@ use crate::partition::Partition;
 use stamps::site::Site;
 use std::marker::Model;
 
-// The site of a server and its partition.
-#[derive(Clone, Copy)]
+/// The site of a server and its partition.
+#[derive(Clone, Copy, Debug)]
 pub(crate) struct Place {
     pub(crate) site: Site,
     pub(crate) partition: Partition,
@@ -27,7 +27,7 @@ impl Model for Place {
 }
 
 impl Place {
-    // Where the server stands in the array of servers.
+    /// Where the server stands in the array of servers.
     pub(crate) fn index(self) -> usize
         ensures { result ≡ place_of self.0 self.1 }
     {
@@ -35,7 +35,7 @@ impl Place {
     }
 }
 
-// The site of a number that is known to be one.
+/// The site of a number that is known to be one.
 pub(crate) fn site_of(number: u8) -> Site
     requires { number < 4 }
     ensures { result ≡ number }

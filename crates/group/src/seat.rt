@@ -1,8 +1,9 @@
-// An open snapshot: its session, its serial number, and the row of its cut.
+//! An open snapshot: its session, its serial number, and the row of its cut.
 use stamps::row::Row;
 use std::marker::Model;
 
-#[derive(Clone, Copy)]
+/// An open snapshot. `serial` tells it from the snapshots that had the seat before.
+#[derive(Clone, Copy, Debug)]
 pub(crate) struct Seat {
     pub(crate) session: u8,
     pub(crate) serial: u32,

@@ -7,8 +7,8 @@ use stamps::site::Site;
 use stamps::stamp::Stamp;
 use std::marker::Model;
 
-/// A session at a site. `depends` stands for what it has put and was shown, `knows` for the stable marks that it has met;
-/// both are kept as the rows of their marks, so that a session is not generic.
+/// A session at a site. `depends` stands for what it has put and was shown, `knows` for the stable marks that it has
+/// met; both are kept as the rows of their marks, so that a session is not generic.
 #[derive(Clone, Copy, Debug, Default)]
 pub(crate) struct Session {
     pub(crate) site: Site,

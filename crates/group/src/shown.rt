@@ -1,4 +1,4 @@
-// What a get or a read shows of its key.
+//! What a get or a read shows of its key.
 ghost use Rattle.std.specs.Prelude.{◌≡◌};
 ghost use Rattle.group.specs.Model.Calls.{shown_of};
 
@@ -8,19 +8,22 @@ use stamps::site::Site;
 use stamps::stamp::Stamp;
 use std::marker::Model;
 
+/// A version as a client sees it.
 #[derive(Clone, Copy)]
 pub struct Shown {
+    /// The value that was put.
     pub value: Value,
+    /// The stamp of the put.
     pub stamp: Stamp,
-    // The site of the put.
+    /// The site of the put.
     pub source: Site,
 }
 
 // In clauses it is the model's.
 impl Model for Shown {
-    ghost use Rattle.group.specs.Model.Events.{Shown as ShownState};
+    ghost use Rattle.group.specs.Model.Events.{Shown};
 
-    ghost Value = { ShownState };
+    ghost Value = { Shown };
 
     ghost view = { λ v. record { value = v.value; stamp = v.stamp; source = v.source } };
 

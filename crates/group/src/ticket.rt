@@ -1,7 +1,9 @@
-// What an open snapshot is asked by.
+//! What an open snapshot is asked by.
 use std::marker::Model;
 
-// Only the opening of a snapshot makes a ticket, and only its close takes it: it cannot be copied or let go.
+/// The right to read an open snapshot. Only its opening makes a ticket, and only its close takes it: it cannot be
+/// copied or let go.
+#[derive(Debug)]
 pub struct Ticket {
     pub(crate) seat: u8,
     pub(crate) serial: u32,
@@ -9,9 +11,9 @@ pub struct Ticket {
 
 // In clauses a ticket is the model's.
 impl Model for Ticket {
-    ghost use Rattle.group.specs.Model.Events.{Ticket as TicketState};
+    ghost use Rattle.group.specs.Model.Events.{Ticket};
 
-    ghost Value = { TicketState };
+    ghost Value = { Ticket };
 
     ghost view = { λ t. record { seat = t.seat; serial = t.serial } };
 }

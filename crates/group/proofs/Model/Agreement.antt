@@ -7,7 +7,7 @@ use Rattle.servers.specs.Laws.{IsIn, IsLatest}
 use Rattle.servers.specs.declared.version.Version.{Version}
 use Rattle.group.specs.Model.Events.{IsAsLate, History}
 use Rattle.group.specs.Model.Groups.{GroupState}
-use Rattle.group.specs.Model.GroupStore.{IsAllTaken, versions_at}
+use Rattle.group.specs.Model.GroupStore.{HasEmptyOutboxes, versions_at}
 use Rattle.group.specs.Model.Promises.{any_version}
 use Rattle.group.proofs.Model.Invariant.{Shape, Ghost, name_of, part, Had}
 use Rattle.group.proofs.Model.Effects.{part_small}
@@ -16,7 +16,7 @@ use Rattle.group.proofs.Model.Showing.{as_late_trans, same_time, stands_late}
 use Rattle.group.proofs.Model.Histories.{Inv}
 use Rattle.group.proofs.Model.SessionLines.{held_from, held_in}
 
-module _ {k : Kind} {sites : ℕ} {h : History} {g : GroupState} {G : Ghost} (v : Inv k sites h g G) (quiet : IsAllTaken g) where
+module _ {k : Kind} {sites : ℕ} {h : History} {g : GroupState} {G : Ghost} (v : Inv k sites h g G) (quiet : HasEmptyOutboxes g) where
   abbrev L : Shape
   L = shape g v.frame.layout.few_sites v.frame.layout.some_partitions
 

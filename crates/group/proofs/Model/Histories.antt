@@ -10,7 +10,7 @@ use Rattle.group.specs.Model.Calls.{shown_of}
 use Rattle.group.specs.Model.Events.{Put, Shown, Ticket, Told, read_by, nothing, History}
 use Rattle.group.specs.Model.Groups.{GroupState, SeatState, session_at, seat_at}
 use Rattle.group.specs.Model.GroupStore.{IsLayoutBounded}
-use Rattle.group.specs.Model.Pasts.{site_of, reader_of, Past}
+use Rattle.group.specs.Model.Pasts.{site_of, reader_of, HasInPast}
 use Rattle.group.specs.Model.Promises.{IsOpen, WasOpened, WasPut}
 use Rattle.group.proofs.Model.Invariant.{Ghost, tables, name_of, Core}
 use Rattle.group.proofs.Model.GroupEffects.{shape, with_servers}
@@ -52,7 +52,7 @@ pub record ReadRight (k : Kind) (G : Ghost) (next : ℕ) (t : Ticket) (key : ℕ
 pub record Inv (k : Kind) (sites : ℕ) (h : History) (g : GroupState) (G : Ghost) : Type 0 where
   pub frame : Frame g
   pub layout : g.sites ≡ sites
-  pub core : Core k (shape g frame.layout.few_sites frame.layout.some_partitions) (Past h) (tables k g) G
+  pub core : Core k (shape g frame.layout.few_sites frame.layout.some_partitions) (HasInPast h) (tables k g) G
   pub hist : HistInv h g
   pub reads : (t : Ticket) (key : ℕ) (o : Option Shown) → IsIn (read_by t key o) h → ReadRight k G g.next_serial t key o
   -- the log is what was put
@@ -99,7 +99,7 @@ module _ {k : Kind} {sites : ℕ} {h : History} {g : GroupState} {G : Ghost} (v 
 
   -- a call that tells nothing, and changes servers only
   pub servers_kept : (server : ℕ → ℕ → ServerState) → ((s n : ℕ) → ServerFrame g.sites s (server s n)) →
-      Core k (shape g v.frame.layout.few_sites v.frame.layout.some_partitions) (Past h) (tables k (with_servers g server)) G → Kept k sites h g G nothing (with_servers g server)
+      Core k (shape g v.frame.layout.few_sites v.frame.layout.some_partitions) (HasInPast h) (tables k (with_servers g server)) G → Kept k sites h g G nothing (with_servers g server)
   servers_kept server frames core = record {
     ghost = G;
     inv = record {

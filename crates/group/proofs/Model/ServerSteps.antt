@@ -22,7 +22,7 @@ use Rattle.servers.proofs.Tidied.{tidied_law}
 use Rattle.group.specs.Model.Calls.{has_server, server_left, on_server, change_server, deliver_entry, deliver_left, safe_mark, with_ok}
 use Rattle.group.specs.Model.Events.{Done, nothing, History}
 use Rattle.group.specs.Model.Groups.{GroupState, with_server, reported_at}
-use Rattle.group.specs.Model.Pasts.{Past}
+use Rattle.group.specs.Model.Pasts.{HasInPast}
 use Rattle.group.proofs.Model.Rows.{covers_self, covers_trans, stamps_at}
 use Rattle.group.proofs.Model.Lists.{set2, set2_cases, set2_field, set2_other, set2_same}
 use Rattle.group.proofs.Model.Floors.{common_mark, common_below, in_first, first_in}
@@ -71,7 +71,7 @@ module _ {k : Kind} (law : IsLawfulKind k) {sites : ℕ} {h : History} {g : Grou
   server_frames s n x f s' n' =
       set2_cases g.server s n x s' n' (ServerFrame g.sites s') (λ a _. subst (λ (z : ℕ). ServerFrame g.sites z x) (sym a) f) (λ _. v.frame.servers s' n')
 
-  one_kept : (s n : ℕ) (x : ServerState) → ServerFrame g.sites s x → Core k L (Past h) (tables k (with_server g s n x)) G → Kept k sites h g G nothing (with_server g s n x)
+  one_kept : (s n : ℕ) (x : ServerState) → ServerFrame g.sites s x → Core k L (HasInPast h) (tables k (with_server g s n x)) G → Kept k sites h g G nothing (with_server g s n x)
   one_kept s n x f core = servers_kept v (set2 g.server s n x) (server_frames s n x f) core
 
   -- a call of one server, by what it is if the layout has the server
@@ -197,10 +197,10 @@ module _ {k : Kind} (law : IsLawfulKind k) {sites : ℕ} {h : History} {g : Grou
     -- the tables once the taker has become x and the sender has handed the entry over
     taken_tables : (x : ServerState) {held : ℕ → ℕ → List Version} → set2 (λ i m. (g.server i m).held) to n x.held ≡ held →
         x.marks.received ≡ with_entry taker.marks.received from (entry_stamp e) → x.marks.reported ≡ taker.marks.reported → x.marks.stable ≡ taker.marks.stable → x.waiting ≡ taker.waiting →
-        Core k L (Past h) (with_entries (tables k g) held (receiving (λ i m. (g.server i m).marks.received) to n from (entry_stamp e)) (handed_over (λ i m. (g.server i m).waiting) from to n)) G →
-        Core k L (Past h) (tables k (with_server (with_server g to n x) from n (server_hand_over sender to))) G
+        Core k L (HasInPast h) (with_entries (tables k g) held (receiving (λ i m. (g.server i m).marks.received) to n from (entry_stamp e)) (handed_over (λ i m. (g.server i m).waiting) from to n)) G →
+        Core k L (HasInPast h) (tables k (with_server (with_server g to n x) from n (server_hand_over sender to))) G
     taken_tables x {held} same-held same_received same-reported same-stable same-waits core =
-        subst (λ (T : Tables). Core k L (Past h) T G)
+        subst (λ (T : Tables). Core k L (HasInPast h) T G)
         (sym (tables_server k (with_server g to n x) from n (server_hand_over sender to)
         (both (λ (y : ServerState). y.held) sender.held refl ∙ same-held)
         (both (λ (y : ServerState). y.marks.received) sender.marks.received refl ∙ ap (λ (m : PerSite). set2 (λ i j. (g.server i j).marks.received) to n m) same_received)
@@ -226,7 +226,7 @@ module _ {k : Kind} (law : IsLawfulKind k) {sites : ℕ} {h : History} {g : Grou
             (λ a b. same-stable ∙ (ap (λ (z : ℕ). (g.server z n).marks.stable) (sym a) ∙ ap (λ (z : ℕ). (g.server i z).marks.stable) (sym b)))
             (λ _. refl))
 
-    taken_kept : (x : ServerState) → ServerFrame g.sites to x → Core k L (Past h) (tables k (with_server (with_server g to n x) from n (server_hand_over sender to))) G →
+    taken_kept : (x : ServerState) → ServerFrame g.sites to x → Core k L (HasInPast h) (tables k (with_server (with_server g to n x) from n (server_hand_over sender to))) G →
         Kept k sites h g G nothing (with_server (with_server g to n x) from n (server_hand_over sender to))
     taken_kept x f core = servers_kept v (set2 (set2 g.server to n x) from n (server_hand_over sender to))
         (λ i m. set2_cases (set2 g.server to n x) from n (server_hand_over sender to) i m (ServerFrame g.sites i)

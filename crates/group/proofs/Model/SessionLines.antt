@@ -1,5 +1,6 @@
 -- The promises about sessions, from the invariant.
 use Rattle.std.proofs.Common.{◌≡◌, ℕ, ◌%◌, ◌<◌, ◌≤◌, true, eqb, ltb, ◌⊎◌, List, [], ◌∷◌, length, Some, None, Ok, Err, Option, Result, sym, refl, ap, ◌∙◌, subst, inl, inr, ⊎_elim, arith}
+use Rattle.std.specs.List.{flat_map}
 use Rattle.std.proofs.lemmas.Bool.{cond_both, cond-true, eq-eqb, lt-ltb, ltb-true, or_left, or_right}
 use Rattle.stamps.specs.declared.refusal.Refusal.{Refusal}
 use Rattle.stamps.specs.declared.refusal.Refusal.TheVariants.{NoSession, TableFull, OutboxFull}
@@ -18,8 +19,8 @@ use Rattle.servers.proofs.Latest.{latest_law}
 use Rattle.group.specs.Model.Calls.{step, informed_server, learn, put_left, put_value, safe_mark, show, shown_of}
 use Rattle.group.specs.Model.Events.{Put, IsAsLate, IsLater, Shown, put_shown, get, put, History}
 use Rattle.group.specs.Model.Groups.{GroupState, SessionState, tabulate, partition_of, session_at}
-use Rattle.group.specs.Model.GroupStore.{versions_at, joined, may_see}
-use Rattle.group.specs.Model.Pasts.{of_session, of_put, Past, site_of}
+use Rattle.group.specs.Model.GroupStore.{versions_at, may_see}
+use Rattle.group.specs.Model.Pasts.{of_session, of_put, HasInPast, site_of}
 use Rattle.group.specs.Model.Promises.{ShowsAsLate, WasPut}
 use Rattle.group.proofs.Model.Rows.{covers_trans, covers_from, at_greatest, floor_mark, floor_over, full_stamp, join_left, join_right, join_mark, stamps_at}
 use Rattle.group.proofs.Model.Lists.{in_either, in_left, in_right}
@@ -33,23 +34,23 @@ use Rattle.group.proofs.Model.Histories.{Inv, shown_option}
 
 -- ---- what a site holds, by its servers
 
-in_joined : {A : Type 0} (x : A) (xss : List (List A)) → IsIn x (joined xss) → (xs : List A) × IsIn xs xss × IsIn x xs
-in_joined x [] i = absurd i
-in_joined x (xs ∷ xss) i = ⊎_elim (λ j. (xs, inl refl, j)) (λ j. let r = in_joined x xss j in (r.0, inr r.1, r.2)) (in_either x xs (joined xss) i)
+in_flat_map : {A B : Type 0} (f : B → List A) (x : A) (ys : List B) → IsIn x (flat_map f ys) → (y : B) × IsIn y ys × IsIn x (f y)
+in_flat_map f x [] i = absurd i
+in_flat_map f x (y ∷ ys) i = ⊎_elim (λ j. (y, inl refl, j)) (λ j. let r = in_flat_map f x ys j in (r.0, inr r.1, r.2)) (in_either x (f y) (flat_map f ys) i)
 
-joined_in : {A : Type 0} (x : A) (xss : List (List A)) (xs : List A) → IsIn xs xss → IsIn x xs → IsIn x (joined xss)
-joined_in x [] xs i j = absurd i
-joined_in x (ys ∷ xss) xs (inl e) j = in_left x ys (joined xss) (subst (IsIn x) e j)
-joined_in x (ys ∷ xss) xs (inr i) j = in_right x ys (joined xss) (joined_in x xss xs i j)
+flat_map_in : {A B : Type 0} (f : B → List A) (x : A) (ys : List B) (y : B) → IsIn y ys → IsIn x (f y) → IsIn x (flat_map f ys)
+flat_map_in f x [] y i j = absurd i
+flat_map_in f x (z ∷ ys) y (inl e) j = in_left x (f z) (flat_map f ys) (subst (λ b. IsIn x (f b)) e j)
+flat_map_in f x (z ∷ ys) y (inr i) j = in_right x (f z) (flat_map f ys) (flat_map_in f x ys y i j)
 
 pub held_from : (g : GroupState) (s : ℕ) (w : Version) → IsIn w (versions_at g s) → (n : ℕ) × (n < g.partitions) × IsIn w (g.server s n).held
 held_from g s w i =
-    let r = in_joined w (tabulate (λ n. (g.server s n).held) g.partitions) i in
-    let f = first_in (λ n. (g.server s n).held) g.partitions r.0 r.1 in
-    (f.0, f.1, subst (IsIn w) f.2 r.2)
+    let r = in_flat_map (λ (t : ServerState). t.held) w (tabulate (g.server s) g.partitions) i in
+    let f = first_in (g.server s) g.partitions r.0 r.1 in
+    (f.0, f.1, subst (λ (t : ServerState). IsIn w t.held) f.2 r.2)
 
 pub held_in : (g : GroupState) (s n : ℕ) (w : Version) → n < g.partitions → IsIn w (g.server s n).held → IsIn w (versions_at g s)
-held_in g s n w l i = joined_in w (tabulate (λ m. (g.server s m).held) g.partitions) (g.server s n).held (in_first (λ m. (g.server s m).held) g.partitions n l) i
+held_in g s n w l i = flat_map_in (λ (t : ServerState). t.held) w (tabulate (g.server s) g.partitions) (g.server s n) (in_first (g.server s) g.partitions n l) i
 
 pub showing_answer : (k : Kind) (g : GroupState) (i : ℕ) (o : Option Version) → (show k g i o).0 ≡ Ok (shown_option o)
 showing_answer k g i None = refl
@@ -63,7 +64,7 @@ module _ {k : Kind} (law : IsLawfulKind k) {sites : ℕ} {h : History} {g : Grou
   source_four w i = let s = v.core.logs.source w i in let f = v.frame.layout.few_sites in omega arith
 
   -- (a) a put is later than each put of its key in its past, of whatever key
-  pub put_later : (p q : Put) → Past h (of_put p) q → IsLater p q
+  pub put_later : (p q : Put) → HasInPast h (of_put p) q → IsLater p q
   put_later p q past =
       let b = v.core.pasts.of_put_lem p q past in
       let r = b.reached in
@@ -111,7 +112,7 @@ module _ {k : Kind} (law : IsLawfulKind k) {sites : ℕ} {h : History} {g : Grou
     seen_from w c = or_right (eqb w.source heard.site) _ (covers_from (k.floor heard.marks.stable) (full_mark k w) (covers_trans (floor_over law stable_mark) c))
 
     -- for each put in the session's past, the get shows it or a later one
-    pub shows_past : (p : Put) → p.key ≡ key → Past h (of_session i) p → ShowsAsLate key (Ok (shown_option found)) p
+    pub shows_past : (p : Put) → p.key ≡ key → HasInPast h (of_session i) p → ShowsAsLate key (Ok (shown_option found)) p
     shows_past p same_key past = go found get_latest
       where
         r : Reached k L (λ a b. (g.server a b).marks.received) G.log s (session_at g i).depends (session_at g i).knows p

@@ -20,7 +20,7 @@ use Rattle.servers.proofs.Latest.{latest_law}
 use Rattle.group.specs.Model.Calls.{open_session_step, on_session, put_left, put_value, with_depends, shown_of, show, informed_server, learn}
 use Rattle.group.specs.Model.Events.{Put, IsAsLate, Shown, Ticket, open_session, put, get, what_is_told, session_opened, wrote, got, read_by, History}
 use Rattle.group.specs.Model.Groups.{GroupState, SessionState, new_session, partition_of, session_at, with_server, with_sessions, with_session}
-use Rattle.group.specs.Model.Pasts.{Pasts, of_session, Past, pasts_with_shown, pasts_with_put, site_of}
+use Rattle.group.specs.Model.Pasts.{Pasts, of_session, HasInPast, pasts_with_shown, pasts_with_put, site_of}
 use Rattle.group.specs.Model.Promises.{WasOpened, WasPut}
 use Rattle.group.proofs.Model.Rows.{covers_self, covers_trans, covers_true, covers_at, entry_rises, floor_mark, floor_over, floor_under, full_is_mark, full_mark_lem, full_stamp, join_left, join_right, join_least, join_mark, stamps_at}
 use Rattle.group.proofs.Model.Lists.{set1, set2, set1_cases, set2_cases, set1_other, set2_here, set2_same, get_d_push}
@@ -161,7 +161,7 @@ module _ {k : Kind} (law : IsLawfulKind k) {sites : ℕ} {h : History} {g : Grou
       new' : last (λ a b. (g.server a b).marks.received) s n < t
       new' = subst (λ (z : ℕ). z < t) (last_is law v s n in_s) new
 
-      stored : Core k L (Past h) (with_entries (tables k g) (set2 (λ a b. (g.server a b).held) s n (srv.held ++ (ver t ∷ []))) (receiving (λ a b. (g.server a b).marks.received) s n s t) (sending g.sites (λ a b. (g.server a b).waiting) s n (Update (ver t)))) G'
+      stored : Core k L (HasInPast h) (with_entries (tables k g) (set2 (λ a b. (g.server a b).held) s n (srv.held ++ (ver t ∷ []))) (receiving (λ a b. (g.server a b).marks.received) s n s t) (sending g.sites (λ a b. (g.server a b).waiting) s n (Update (ver t)))) G'
       stored = kept v.core s n in_s (ver t) site_is refl new' small marked after
 
       stable' : PerSite
@@ -173,7 +173,7 @@ module _ {k : Kind} (law : IsLawfulKind k) {sites : ℕ} {h : History} {g : Grou
       stable_up : Covers (join (k.floor srv.marks.stable) (k.floor x.knows)) srv.marks.stable
       stable_up = covers_trans (join_left (k.floor srv.marks.stable) (k.floor x.knows)) (floor_over law (v.core.marks.stable_mark s n))
 
-      core1 : Core k L (Past h) (tables k (g1 t)) G'
+      core1 : Core k L (HasInPast h) (tables k (g1 t)) G'
       core1 =
           place_server law g v.frame.layout.few_sites v.frame.layout.some_partitions v.core s n (server' t)
           refl (issued_received law v s n in_s t) (set2_same _ s n _ refl) refl (issued_waits law v s n in_s (Update (ver t))) stable_marked stable_up
@@ -182,7 +182,7 @@ module _ {k : Kind} (law : IsLawfulKind k) {sites : ℕ} {h : History} {g : Grou
           (covers_trans ((stored.sessions i l).knows_below n' ln) (floor_under law (v.core.sessions i l).knows_mark.0)))
           stored)
 
-      core2 : Core k L (Past h) (tables k (g2 t)) G'
+      core2 : Core k L (HasInPast h) (tables k (g2 t)) G'
       core2 =
           let inv = core1.sessions i l in
           grow_session law (g1 t) v.frame.layout.few_sites v.frame.layout.some_partitions core1 i (session' t) l refl
@@ -213,12 +213,12 @@ module _ {k : Kind} (law : IsLawfulKind k) {sites : ℕ} {h : History} {g : Grou
           (λ _ _. covers_trans (join_right (k.floor srv.marks.stable) (k.floor x.knows)) (floor_over law (v.core.sessions i l).knows_mark))
           (λ no'. absurd (no' site_is refl))
 
-      before : (p : Put) → Past h (of_session i) p → Reached k L (λ a b. ((g2 t).server a b).marks.received) (ver t ∷ G.log) (ver t).source (ver t).mark ((g2 t).server (ver t).source (part L (ver t).key)).marks.stable p
+      before : (p : Put) → HasInPast h (of_session i) p → Reached k L (λ a b. ((g2 t).server a b).marks.received) (ver t ∷ G.log) (ver t).source (ver t).mark ((g2 t).server (ver t).source (part L (ver t).key)).marks.stable p
       before p q =
           subst (λ (z : ℕ). Reached k L (λ a b. ((g2 t).server a b).marks.received) (ver t ∷ G.log) z (ver t).mark ((g2 t).server (ver t).source n).marks.stable p) (sym site_is)
           (reached_rises risen (λ w j. inr j) (floor_over law (v.core.sessions i l).depends_mark) stable_knows (v.core.pasts.of_session_lem i p q))
 
-      core3 : Core k L (pasts_with_put (Past h) i (name_of (ver t))) (tables k (g2 t)) G'
+      core3 : Core k L (pasts_with_put (HasInPast h) i (name_of (ver t))) (tables k (g2 t)) G'
       core3 = written_too i (ver t) (subst (λ (z : ℕ). i < z) (sym (length-set g.sessions i (session' t))) l) (inl refl) source
           (subst (λ (z : ℕ). Had L (λ a b. ((g2 t).server a b).marks.received) z (ver t)) source (core2.logs.stamped (ver t) (inl refl)))
           (subst (λ (y : SessionState). Covers y.depends (full_mark k (ver t))) (sym same) (covers_self (full_mark k (ver t))))
@@ -282,7 +282,7 @@ module _ {k : Kind} (law : IsLawfulKind k) {sites : ℕ} {h : History} {g : Grou
             serials = v.frame.serials;
           };
           layout = v.layout;
-          core = subst (λ (p : Put). Core k L (pasts_with_put (Past h) i p) (tables k (g2 t)) G') named core3;
+          core = subst (λ (p : Put). Core k L (pasts_with_put (HasInPast h) i p) (tables k (g2 t)) G') named core3;
           hist = record {
             opened_known = still_opened v (length-set g.sessions i (session' t));
             sites_known = λ j lj. v.hist.sites_known j (subst (λ (z : ℕ). j < z) (length-set g.sessions i (session' t)) lj) ∙ sym (session_sites (g1 t) i (session' t) l refl j);
@@ -344,7 +344,7 @@ module _ {k : Kind} (law : IsLawfulKind k) {sites : ℕ} {h : History} {g : Grou
     abbrev known : SessionState
     known = record { site = (session_at g i).site; depends = (session_at g i).depends; knows = heard.marks.stable }
 
-    pub learn_core : Core k L (Past h) (tables k (learn k g i (session_at g i) n)) G
+    pub learn_core : Core k L (HasInPast h) (tables k (learn k g i (session_at g i) n)) G
     learn_core =
         let y = session_at g i in
         let inv = v.core.sessions i l in
@@ -435,7 +435,7 @@ module _ {k : Kind} (law : IsLawfulKind k) {sites : ℕ} {h : History} {g : Grou
             serials = v.frame.serials;
           };
           layout = v.layout;
-          core = subst (λ (p : Put). Core k L (pasts_with_shown (Past h) i p) (tables k (with_session g1 i x2)) G) (ap (λ (z : ℕ). record { key = z; stamp = w.stamp; source = w.source }) best.1.0)
+          core = subst (λ (p : Put). Core k L (pasts_with_shown (HasInPast h) i p) (tables k (with_session g1 i x2)) G) (ap (λ (z : ℕ). record { key = z; stamp = w.stamp; source = w.source }) best.1.0)
               (see_core law g1 v.frame.layout.few_sites v.frame.layout.some_partitions core1 i w l1 logged' had clear);
           hist = record {
             opened_known = λ j o. subst (λ (z : ℕ). j < z) (sym (length-set g1.sessions i x2)) (learn_opened i (partition_of g key) l j o);
@@ -453,7 +453,7 @@ module _ {k : Kind} (law : IsLawfulKind k) {sites : ℕ} {h : History} {g : Grou
           x2 : SessionState
           x2 = with_depends (session_at g1 i) (join (k.floor (session_at g1 i).depends) (full_mark k w))
 
-          core1 : Core k L (Past h) (tables k g1) G
+          core1 : Core k L (HasInPast h) (tables k g1) G
           core1 = learn_core i (partition_of g key) l
 
           l1 : i < length g1.sessions

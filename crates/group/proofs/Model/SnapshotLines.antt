@@ -16,7 +16,7 @@ use Rattle.group.specs.Model.Calls.{step, on_seat_of, show, shown_of}
 use Rattle.group.specs.Model.Events.{Put, IsAsLate, Shown, put_shown, Ticket, Call, open_snapshot, read, what_is_told, read_by, History}
 use Rattle.group.specs.Model.Groups.{GroupState, SeatState, partition_of, seat_at, session_at, with_server}
 use Rattle.group.specs.Model.GroupStore.{group_store}
-use Rattle.group.specs.Model.Pasts.{of_put, Past}
+use Rattle.group.specs.Model.Pasts.{of_put, HasInPast}
 use Rattle.group.specs.Model.Promises.{IsOpen, IsSameAnswer, ShowsAsLate, WasPut}
 use Rattle.group.specs.Model.Stores.{Run, then, then_all, history}
 use Rattle.group.proofs.Model.Rows.{covers_trans, full_mark_lem}
@@ -82,7 +82,7 @@ module _ {k : Kind} (law : IsLawfulKind k) {sites : ℕ} {h : History} {g : Grou
 
   -- of one snapshot's answers, not one is older than a put of its key in the past of any of them
   pub whole : (t : Ticket) (key other : ℕ) (o : Option Shown) (u : Shown) (p : Put) → IsIn (read_by t key o) h → IsIn (read_by t other (Some u)) h →
-      Past h (of_put (put_shown other u)) p → p.key ≡ key → ShowsAsLate key (Ok o) p
+      HasInPast h (of_put (put_shown other u)) p → p.key ≡ key → ShowsAsLate key (Ok o) p
   whole t key other o u p i j past same_key = go (v.reads t key o i) (v.reads t other (Some u) j)
     where
       b : Before k L (λ s n. (g.server s n).marks.received) (λ s n. (g.server s n).marks.stable) G.log (put_shown other u) p

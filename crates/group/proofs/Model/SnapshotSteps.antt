@@ -14,7 +14,7 @@ use Rattle.servers.proofs.Latest.{latest_law}
 use Rattle.group.specs.Model.Calls.{with_depends, informed_server, learn, on_seat, on_seat_of, on_session, show, shown_of, open_snapshot_at}
 use Rattle.group.specs.Model.Events.{Put, Shown, put_shown, Ticket, open_snapshot, read, close, what_is_told, snapshot_opened, read_by, snapshot_closed, Done, History}
 use Rattle.group.specs.Model.Groups.{GroupState, SessionState, SeatState, partition_of, session_at, seat_at, with_server, with_session, with_seat, lowest_free}
-use Rattle.group.specs.Model.Pasts.{Past, pasts_with_shown, reader_of}
+use Rattle.group.specs.Model.Pasts.{HasInPast, pasts_with_shown, reader_of}
 use Rattle.group.specs.Model.Promises.{IsOpen}
 use Rattle.group.proofs.Model.Rows.{covers_self, covers_trans, covers_true, floor_mark, floor_under}
 use Rattle.group.proofs.Model.Lists.{set1, set1_cases, set1_here, set1_other, set2_here, get_d_set}
@@ -163,7 +163,7 @@ module _ {k : Kind} (law : IsLawfulKind k) {sites : ℕ} {h : History} {g : Grou
         grows = grows;
       }
         where
-          core1 : Core k L (Past h) (tables k g1) G
+          core1 : Core k L (HasInPast h) (tables k g1) G
           core1 = learn_core law v i n li
 
           here : session_at g1 i ≡ record { site = (session_at g i).site; depends = (session_at g i).depends; knows = heard.marks.stable }
@@ -257,7 +257,7 @@ module _ {k : Kind} (law : IsLawfulKind k) {sites : ℕ} {h : History} {g : Grou
     abbrev g1 : GroupState
     g1 = with_server g s n server'
 
-    core1 : Core k L (Past h) (tables k g1) G
+    core1 : Core k L (HasInPast h) (tables k g1) G
     core1 = raise_server law g v.frame.layout.few_sites v.frame.layout.some_partitions v.core s n (k.floor y.cut) (floor_mark law cut_mark.0) (λ n' ln. covers_trans (cut_below n' ln) (floor_under law cut_mark.0))
 
     frames : (s' n' : ℕ) → ServerFrame g.sites s' (g1.server s' n')
@@ -303,8 +303,8 @@ module _ {k : Kind} (law : IsLawfulKind k) {sites : ℕ} {h : History} {g : Grou
           serials = v.frame.serials;
         };
         layout = v.layout;
-        core = subst (λ (z : ℕ). Core k L (pasts_with_shown (Past h) z (put_shown key (shown_of w))) (tables k (with_session g1 y.session x2)) G) (sym (v.hist.readers_known a y there) ∙ ap (reader_of h) same)
-            (subst (λ (p : Put). Core k L (pasts_with_shown (Past h) y.session p) (tables k (with_session g1 y.session x2)) G) (ap (λ (z : ℕ). record { key = z; stamp = w.stamp; source = w.source }) best.1.0)
+        core = subst (λ (z : ℕ). Core k L (pasts_with_shown (HasInPast h) z (put_shown key (shown_of w))) (tables k (with_session g1 y.session x2)) G) (sym (v.hist.readers_known a y there) ∙ ap (reader_of h) same)
+            (subst (λ (p : Put). Core k L (pasts_with_shown (HasInPast h) y.session p) (tables k (with_session g1 y.session x2)) G) (ap (λ (z : ℕ). record { key = z; stamp = w.stamp; source = w.source }) best.1.0)
             (see_core law g1 v.frame.layout.few_sites v.frame.layout.some_partitions core1 y.session w seat.known had_there.0 had_there.2 (inr clear)));
         hist = record {
           opened_known = still_opened v (length-set g.sessions y.session x2);

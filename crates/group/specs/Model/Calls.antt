@@ -1,69 +1,90 @@
 -- What each call of a group answers, and the group after it. Refusals stand in the order in which they are checked.
-use Rattle.std.specs.Prelude.{◌≡◌, ℕ, suc, ◌-◌, ◌^◌, Bool, if◌then◌else◌, [], ◌∷◌, ◌++◌, length, Some, None, Ok, Err, Option, Result, ◌==◌, nat_le, nat_lt}
+use Rattle.std.specs.Prelude.{◌≡◌, ℕ, suc, ◌-◌, ◌^◌, Bool, if◌then◌else◌, [], ◌∷◌, ◌++◌, length, ◌==◌, nat_le, nat_lt}
+use Rattle.std.specs.Prelude.{Some, None, Ok, Err, Option, Result}
 use Rattle.stamps.specs.declared.refusal.Refusal.{Refusal}
-use Rattle.stamps.specs.declared.refusal.Refusal.TheVariants.{NotInLayout, NoSession, NoneFree, NothingWaits, NotOpen, End}
+use Rattle.stamps.specs.declared.refusal.Refusal.TheVariants.{NotInLayout, NoSession, NoneFree, NothingWaits}
+use Rattle.stamps.specs.declared.refusal.Refusal.TheVariants.{NotOpen, End}
 use Rattle.stamps.specs.Rows.{PerSite, join}
 use Rattle.stamps.specs.Kinds.{Kind}
 use Rattle.servers.specs.declared.entry.Entry.{Entry}
 use Rattle.servers.specs.Outboxes.{next_for}
-use Rattle.servers.specs.Servers.{Rule, ServerState, server_tell, server_heartbeat, server_put, put_version, server_hand_over, server_take, lead_of, server_raise, server_report, latest_visible, latest_covered, server_tidy}
+use Rattle.servers.specs.Servers.{Rule, ServerState, server_tell, server_heartbeat, server_put, put_version}
+use Rattle.servers.specs.Servers.{server_take, server_hand_over, lead_of, server_raise, server_report, latest_visible}
+use Rattle.servers.specs.Servers.{latest_covered, server_tidy}
 use Rattle.servers.specs.Values.{value_from}
 use Rattle.servers.specs.declared.value.Value.{Value}
 use Rattle.servers.specs.Versions.{full_mark}
 use Rattle.servers.specs.declared.version.Version.{Version}
-use Rattle.group.specs.Model.Events.{Done, Shown, Ticket, Call, open_session, tell, put, get, heartbeat, deliver, report, stabilise, open_snapshot, read, close, tidy, lead, Answer}
+use Rattle.group.specs.Model.Events.{Done, Shown, Ticket, Call, open_session, tell, put, get, heartbeat, deliver}
+use Rattle.group.specs.Model.Events.{report, stabilise, open_snapshot, read, close, tidy, lead, Answer}
 use Rattle.stamps.specs.CommonFloors.{common_floor}
-use Rattle.group.specs.Model.Groups.{GroupState, SessionState, SeatState, new_session, partition_of, session_at, seat_at, with_server, with_sessions, with_session, with_seat, is_line, is_server, lowest_free, reported_at, stable_at, cuts_at}
+use Rattle.group.specs.Model.Groups.{GroupState, SessionState, SeatState, new_session, partition_of, session_at}
+use Rattle.group.specs.Model.Groups.{seat_at, with_server, with_sessions, with_session, with_seat, is_line, is_server}
+use Rattle.group.specs.Model.Groups.{lowest_free, reported_at, stable_at, cuts_at}
 
 abbrev pub has_server : GroupState → ℕ → ℕ → Bool
 has_server g = is_server g.sites g.partitions
 
 -- what a server has answered and left, as the group's; a refusal leaves the group as it was
-abbrev pub server_left : {A : Type 0} → GroupState → ℕ → ℕ → Result A Refusal × ServerState → Result A Refusal × GroupState
+abbrev pub server_left : {A : Type 0}
+    → GroupState → ℕ → ℕ → Result A Refusal × ServerState → Result A Refusal × GroupState
 server_left g site partition (Ok x, s) = (Ok x, with_server g site partition s)
 server_left g site partition (Err why, s) = (Err why, g)
 
 -- a call of one server: refused if the layout lacks it
-abbrev pub on_server : {A : Type 0} → GroupState → ℕ → ℕ → (ServerState → Result A Refusal × ServerState) → Result A Refusal × GroupState
+abbrev pub on_server : {A : Type 0}
+    → GroupState → ℕ → ℕ → (ServerState → Result A Refusal × ServerState) → Result A Refusal × GroupState
 on_server g site partition act =
-    if has_server g site partition then server_left g site partition (act (g.server site partition)) else (Err NotInLayout, g)
+    if has_server g site partition
+    then server_left g site partition (act (g.server site partition))
+    else (Err NotInLayout, g)
 
 -- the same, of what is never refused
 abbrev pub change_server : GroupState → ℕ → ℕ → (ServerState → ServerState) → Result Done Refusal × GroupState
 change_server g site partition change = on_server g site partition (λ s. (Ok tt, change s))
 
 -- a call of a session: refused if it was not opened
-abbrev pub on_session : {A : Type 0} → GroupState → ℕ → (SessionState → Result A Refusal × GroupState) → Result A Refusal × GroupState
+abbrev pub on_session : {A : Type 0}
+    → GroupState → ℕ → (SessionState → Result A Refusal × GroupState) → Result A Refusal × GroupState
 on_session g i act = if nat_lt i (length g.sessions) then act (session_at g i) else (Err NoSession, g)
 
 -- a call of an open snapshot: refused if its seat is not open under its serial number
-abbrev pub on_seat_of : {A : Type 0} → GroupState → ℕ → Option SeatState → (SeatState → Result A Refusal × GroupState) → Result A Refusal × GroupState
+abbrev pub on_seat_of : {A : Type 0}
+    → GroupState → ℕ → Option SeatState → (SeatState → Result A Refusal × GroupState) → Result A Refusal × GroupState
 on_seat_of g serial None act = (Err NotOpen, g)
 on_seat_of g serial (Some y) act = if y.serial == serial then act y else (Err NotOpen, g)
 
-abbrev pub on_seat : {A : Type 0} → GroupState → Ticket → (SeatState → Result A Refusal × GroupState) → Result A Refusal × GroupState
+abbrev pub on_seat : {A : Type 0}
+    → GroupState → Ticket → (SeatState → Result A Refusal × GroupState) → Result A Refusal × GroupState
 on_seat g ticket act = on_seat_of g ticket.serial (seat_at g ticket.seat) act
 
 -- open session
 abbrev pub open_session_step : GroupState → ℕ → Result ℕ Refusal × GroupState
 open_session_step g site =
-    if nat_lt site g.sites then if nat_le 8 (length g.sessions) then (Err NoneFree, g) else (Ok (length g.sessions), with_sessions g (g.sessions ++ (new_session site ∷ []))) else (Err NotInLayout, g)
+    if nat_lt site g.sites
+    then if nat_le 8 (length g.sessions)
+    then (Err NoneFree, g)
+    else (Ok (length g.sessions), with_sessions g (g.sessions ++ (new_session site ∷ [])))
+    else (Err NotInLayout, g)
 
 -- a session depends on this mark from then on
 abbrev pub with_depends : SessionState → PerSite → SessionState
 with_depends x depends = record x { depends = depends }
 
 -- put: the session depends from then on on the new version
-abbrev pub put_left : Kind → GroupState → ℕ → SessionState → ℕ → Value → Result ℕ Refusal × ServerState → Result ℕ Refusal × GroupState
+abbrev pub put_left :
+    Kind → GroupState → ℕ → SessionState → ℕ → Value → Result ℕ Refusal × ServerState → Result ℕ Refusal × GroupState
 put_left k g i x key value (Err why, s) = (Err why, g)
 put_left k g i x key value (Ok stamp, s) =
     let v = put_version (g.server x.site (partition_of g key)) key value (k.floor x.depends) stamp in
     (Ok stamp, with_session (with_server g x.site (partition_of g key) s) i (with_depends x (full_mark k v)))
 
-abbrev pub put_value : Rule → Kind → GroupState → ℕ → ℕ → SessionState → Result Value Refusal → Result ℕ Refusal × GroupState
+abbrev pub put_value :
+    Rule → Kind → GroupState → ℕ → ℕ → SessionState → Result Value Refusal → Result ℕ Refusal × GroupState
 put_value rule k g i key x (Err why) = (Err why, g)
 put_value rule k g i key x (Ok value) =
-    put_left k g i x key value (server_put rule k (g.server x.site (partition_of g key)) key value (k.floor x.depends) (k.floor x.knows))
+    let s = g.server x.site (partition_of g key) in
+    put_left k g i x key value (server_put rule k s key value (k.floor x.depends) (k.floor x.knows))
 
 -- a session was shown a version, or none: it depends on the version from then on
 abbrev pub shown_of : Version → Shown
@@ -90,21 +111,24 @@ learn k g i x partition =
 -- open snapshot: the seat is the lowest free one
 abbrev pub open_snapshot_at : Kind → GroupState → ℕ → SessionState → ℕ → ℕ → Result Ticket Refusal × GroupState
 open_snapshot_at k g i x partition seat =
+    let cut = (informed_server k g x partition).marks.stable in
     if nat_le 4 seat then (Err NoneFree, g) else if nat_le (2 ^ 32 - 1) g.next_serial then (Err End, g) else (
       Ok (record { seat = seat; serial = g.next_serial }),
       with_seat (learn k g i x partition) seat
-          (Some (record { session = i; serial = g.next_serial; cut = (informed_server k g x partition).marks.stable })) (suc g.next_serial),
+          (Some (record { session = i; serial = g.next_serial; cut = cut })) (suc g.next_serial),
     )
 
 -- deliver: the next entry that waits, if there is one, is taken, and then it is taken out of the outbox
-abbrev pub deliver_left : GroupState → ℕ → ℕ → ℕ → Result Done Refusal × ServerState → Result Done Refusal × GroupState
+abbrev pub deliver_left :
+    GroupState → ℕ → ℕ → ℕ → Result Done Refusal × ServerState → Result Done Refusal × GroupState
 deliver_left g from to partition (Err why, s) = (Err why, g)
 deliver_left g from to partition (Ok done, s) =
     (Ok done, with_server (with_server g to partition s) from partition (server_hand_over (g.server from partition) to))
 
 abbrev pub deliver_entry : GroupState → ℕ → ℕ → ℕ → Option Entry → Result Done Refusal × GroupState
 deliver_entry g from to partition None = (Err NothingWaits, g)
-deliver_entry g from to partition (Some e) = deliver_left g from to partition (server_take (g.server to partition) from e)
+deliver_entry g from to partition (Some e) =
+    deliver_left g from to partition (server_take (g.server to partition) from e)
 
 -- tidy: what no snapshot of the site, open or yet to be opened, can need is dropped
 abbrev pub safe_mark : Kind → GroupState → ℕ → PerSite
@@ -118,14 +142,21 @@ step rule k g (open_session site) = open_session_step g site
 step rule k g (tell site partition time) = on_server g site partition (λ s. server_tell s time)
 step rule k g (put i key kind amount) = on_session g i (λ x. put_value rule k g i key x (value_from kind amount))
 step rule k g (get i key) =
-    on_session g i (λ x. show k (learn k g i x (partition_of g key)) i (latest_visible k (informed_server k g x (partition_of g key)) key))
+    on_session g i (λ x.
+    let s = informed_server k g x (partition_of g key) in
+    show k (learn k g i x (partition_of g key)) i (latest_visible k s key))
 step rule k g (heartbeat site partition) = on_server g site partition (server_heartbeat rule)
 step rule k g (deliver from to partition) =
-    if is_line g.sites g.partitions from to partition then deliver_entry g from to partition (next_for (g.server from partition).waiting to) else (Err NotInLayout, g)
+    if is_line g.sites g.partitions from to partition
+    then deliver_entry g from to partition (next_for (g.server from partition).waiting to)
+    else (Err NotInLayout, g)
 step rule k g (report site partition) = change_server g site partition (server_report k)
-step rule k g (stabilise site partition) = change_server g site partition (λ s. server_raise k s (common_floor k (reported_at g site)))
+step rule k g (stabilise site partition) =
+    change_server g site partition (λ s. server_raise k s (common_floor k (reported_at g site)))
 step rule k g (open_snapshot i partition) =
-    if nat_lt partition g.partitions then on_session g i (λ x. open_snapshot_at k g i x partition (lowest_free g.seats)) else (Err NotInLayout, g)
+    if nat_lt partition g.partitions
+    then on_session g i (λ x. open_snapshot_at k g i x partition (lowest_free g.seats))
+    else (Err NotInLayout, g)
 step rule k g (read ticket key) =
     on_seat g ticket (λ y.
     let x = session_at g y.session in
@@ -133,7 +164,8 @@ step rule k g (read ticket key) =
     show k (with_server g x.site (partition_of g key) s) y.session (latest_covered k s key (k.floor y.cut)))
 step rule k g (close ticket) = on_seat g ticket (λ y. (Ok tt, with_seat g ticket.seat None g.next_serial))
 step rule k g (tidy site partition) = on_server g site partition (λ s. with_ok (server_tidy k s (safe_mark k g site)))
-step rule k g (lead site partition) = if has_server g site partition then (Ok (lead_of (g.server site partition)), g) else (Err NotInLayout, g)
+step rule k g (lead site partition) =
+    if has_server g site partition then (Ok (lead_of (g.server site partition)), g) else (Err NotInLayout, g)
 
 -- the call has this answer, and leaves the group in this state
 abbrev pub IsStep : Rule → Kind → GroupState → (call : Call) → Answer call → GroupState → Type 0

@@ -52,8 +52,8 @@ pub data Call : Type 0 where
 abbrev pub Done : Type 0
 Done = Unit {0}
 
--- The answer to a call that is not refused: a session's number, a stamp, none or what is shown, a ticket, how many versions
--- were dropped, how far the last stamp is ahead of the clock; or only that it is done.
+-- The answer to a call that is not refused: a session's number, a stamp, none or what is shown, a ticket, how many
+-- versions were dropped, how far the last stamp is ahead of the clock; or only that it is done.
 abbrev pub Outcome : Call → Type 0
 Outcome (open_session site) = ℕ
 Outcome (put session key kind amount) = ℕ
@@ -72,8 +72,8 @@ pub record Event : Type 0 where
   pub call : Call
   pub answer : Answer call
 
--- What a call that was done tells of sessions, puts and snapshots. A refused call tells nothing, and neither do the calls
--- that concern no session.
+-- What a call that was done tells of sessions, puts and snapshots. A refused call tells nothing, and neither do the
+-- calls that concern no session.
 pub data Told : Type 0 where
   session_opened : (session site : ℕ) → Told
   wrote : (session key kind amount stamp : ℕ) → Told

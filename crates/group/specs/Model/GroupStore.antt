@@ -1,5 +1,6 @@
 -- A group as a store, and the theorem about it.
-use Rattle.std.specs.Prelude.{◌≡◌, ℕ, ◌^◌, ◌<◌, ◌≤◌, ◌≢◌, Bool, List, [], ◌∷◌, ◌++◌, length, Some}
+use Rattle.std.specs.Prelude.{◌≡◌, ℕ, ◌^◌, ◌<◌, ◌≤◌, ◌≢◌, Bool, List, [], length, Some}
+use Rattle.std.specs.List.{flat_map}
 use Rattle.stamps.specs.Rows.{HasStamps}
 use Rattle.stamps.specs.Kinds.{Kind, IsMark}
 use Rattle.servers.specs.declared.entry.Entry.{Entry}
@@ -11,22 +12,20 @@ use Rattle.servers.specs.declared.value.Value.TheVariants.{Gone, Price, Percent,
 use Rattle.servers.specs.declared.value.Basis.TheVariants.{Part, Sheet}
 use Rattle.servers.specs.declared.version.Version.{Version}
 use Rattle.group.specs.Model.Calls.{step, informed_server}
-use Rattle.group.specs.Model.Groups.{GroupState, SessionState, SeatState, new_group, partition_of, session_at, seat_at, tabulate}
+use Rattle.group.specs.Model.Groups.{GroupState, SessionState, SeatState, new_group, partition_of, session_at, seat_at}
+use Rattle.group.specs.Model.Groups.{tabulate}
 use Rattle.group.specs.Model.Promises.{KeepsPromises}
 use Rattle.group.specs.Model.Stores.{Store}
 
--- one list after the other
-abbrev pub joined : {A : Type 0} → List (List A) → List A
-joined [] = []
-joined (xs ∷ xss) = xs ++ joined xss
-
 -- the versions of all servers of a site
 abbrev pub versions_at : GroupState → ℕ → List Version
-versions_at g site = joined (tabulate (λ n. (g.server site n).held) g.partitions)
+versions_at g site = flat_map (λ s. s.held) (tabulate (g.server site) g.partitions)
 
 -- every outbox is empty
-abbrev pub IsAllTaken : GroupState → Type 0
-IsAllTaken g = (from to partition : ℕ) → from < g.sites → to < g.sites → partition < g.partitions → (g.server from partition).waiting to ≡ []
+abbrev pub HasEmptyOutboxes : GroupState → Type 0
+HasEmptyOutboxes g =
+    (from to partition : ℕ) → from < g.sites → to < g.sites → partition < g.partitions
+    → (g.server from partition).waiting to ≡ []
 
 -- the session's server, once it has heard what the session knows, shows the version
 abbrev pub may_see : Kind → GroupState → ℕ → Version → Bool
@@ -51,8 +50,8 @@ abbrev pub IsEntryBounded : Kind → ℕ → Entry → Type 0
 IsEntryBounded k sites (Update v) = IsVersionBounded k sites v
 IsEntryBounded k sites (Heartbeat stamp) = stamp < 2 ^ 63
 
--- A server of a site holds at most 32 versions and keeps at most 16 entries for another site. What it keeps of a mark is the
--- row of a mark of the kind, so the kind's floor gives the mark back.
+-- A server of a site holds at most 32 versions and keeps at most 16 entries for another site. What it keeps of a mark
+-- is the row of a mark of the kind, so the kind's floor gives the mark back.
 pub record IsServerBounded (k : Kind) (sites site : ℕ) (s : ServerState) : Type 0 where
   pub few_versions : length s.held ≤ 32
   pub few_entries : (to : ℕ) → length (s.waiting to) ≤ 16
@@ -83,7 +82,8 @@ pub record IsLayoutBounded (sites partitions : ℕ) : Type 0 where
 -- A group has at most 8 sessions, and 4 seats. A serial number that was given is below the next one, so below 2^32 - 1.
 pub record IsGroupBounded (k : Kind) (g : GroupState) : Type 0 where
   pub layout : IsLayoutBounded g.sites g.partitions
-  pub servers : (site partition : ℕ) → site < g.sites → partition < g.partitions → IsServerBounded k g.sites site (g.server site partition)
+  pub servers : (site partition : ℕ) → site < g.sites → partition < g.partitions
+      → IsServerBounded k g.sites site (g.server site partition)
   pub few_sessions : length g.sessions ≤ 8
   pub sessions : (i : ℕ) → i < length g.sessions → IsSessionBounded k g.sites (session_at g i)
   pub four_seats : length g.seats ≡ 4
@@ -96,10 +96,10 @@ group_store rule k sites =
       State = GroupState;
       sites = sites;
       ask = step rule k;
-      Quiet = IsAllTaken;
+      IsQuiet = HasEmptyOutboxes;
       holds = versions_at;
       may_see = may_see k;
-      Bounded = IsGroupBounded k;
+      IsBounded = IsGroupBounded k;
     }
 
 -- A group with this clock rule and this kind of mark keeps the promises from its making on.

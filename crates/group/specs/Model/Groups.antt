@@ -1,5 +1,6 @@
 -- A group in plain numbers: its servers, its sessions and its open snapshots.
-use Rattle.std.specs.Prelude.{ℕ, zero, suc, ◌%◌, Bool, if◌then◌else◌, not, ◌&&◌, List, [], ◌∷◌, ◌++◌, Some, None, Option, ◌==◌, nat_lt, slice_index_or, slice_set}
+use Rattle.std.specs.Prelude.{ℕ, zero, suc, ◌%◌, Bool, if◌then◌else◌, not, ◌&&◌, List, [], ◌∷◌, ◌++◌, ◌==◌, nat_lt}
+use Rattle.std.specs.Prelude.{Some, None, Option, slice_index_or, slice_set}
 use Rattle.stamps.specs.Rows.{PerSite, same}
 use Rattle.servers.specs.Servers.{ServerState, new_server}
 
@@ -101,7 +102,8 @@ stable_at g site = tabulate (λ n. (g.server site n).marks.stable) g.partitions
 abbrev pub cuts_of : GroupState → ℕ → List (Option SeatState) → List PerSite
 cuts_of g site [] = []
 cuts_of g site (None ∷ ys) = cuts_of g site ys
-cuts_of g site (Some y ∷ ys) = if (session_at g y.session).site == site then y.cut ∷ cuts_of g site ys else cuts_of g site ys
+cuts_of g site (Some y ∷ ys) =
+    if (session_at g y.session).site == site then y.cut ∷ cuts_of g site ys else cuts_of g site ys
 
 abbrev pub cuts_at : GroupState → ℕ → List PerSite
 cuts_at g site = cuts_of g site g.seats

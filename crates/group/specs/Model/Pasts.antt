@@ -1,6 +1,7 @@
 -- The past of a session and of a put, read from calls and answers only.
 use Rattle.std.specs.Prelude.{◌≡◌, ℕ, if◌then◌else◌, ◌⊎◌, [], ◌∷◌, Some, None, Option, ◌==◌}
-use Rattle.group.specs.Model.Events.{Put, Shown, put_shown, session_opened, wrote, got, snapshot_opened, read_by, History}
+use Rattle.group.specs.Model.Events.{Put, Shown, put_shown, History, session_opened, wrote, got}
+use Rattle.group.specs.Model.Events.{snapshot_opened, read_by}
 
 -- the site of a session: where it was opened
 abbrev pub site_of : History → ℕ → ℕ
@@ -38,9 +39,11 @@ abbrev pub pasts_with_answer : Pasts → ℕ → ℕ → Option Shown → Pasts
 pasts_with_answer P i key None = P
 pasts_with_answer P i key (Some v) = pasts_with_shown P i (put_shown key v)
 
-abbrev pub Past : History → Pasts
-Past [] w p = ⊥
-Past (wrote i key kind amount stamp ∷ h) w p = pasts_with_put (Past h) i (record { key = key; stamp = stamp; source = site_of h i }) w p
-Past (got i key v ∷ h) w p = pasts_with_answer (Past h) i key v w p
-Past (read_by ticket key v ∷ h) w p = pasts_with_answer (Past h) (reader_of h ticket.serial) key v w p
-Past (other ∷ h) w p = Past h w p
+-- who has the put in its past
+abbrev pub HasInPast : History → Pasts
+HasInPast [] w p = ⊥
+HasInPast (wrote i key kind amount stamp ∷ h) w p =
+    pasts_with_put (HasInPast h) i (record { key = key; stamp = stamp; source = site_of h i }) w p
+HasInPast (got i key v ∷ h) w p = pasts_with_answer (HasInPast h) i key v w p
+HasInPast (read_by ticket key v ∷ h) w p = pasts_with_answer (HasInPast h) (reader_of h ticket.serial) key v w p
+HasInPast (other ∷ h) w p = HasInPast h w p

@@ -5,8 +5,10 @@ use Rattle.servers.specs.Laws.{IsIn, IsLatest}
 use Rattle.servers.specs.Values.{value_from}
 use Rattle.servers.specs.declared.value.Value.{Value}
 use Rattle.servers.specs.declared.version.Version.{Version}
-use Rattle.group.specs.Model.Events.{Put, IsAsLate, IsLater, Shown, put_shown, Ticket, Call, put, get, open_snapshot, read, session_opened, wrote, snapshot_opened, read_by, snapshot_closed, History}
-use Rattle.group.specs.Model.Pasts.{site_of, of_session, of_put, Past}
+use Rattle.group.specs.Model.Events.{Put, IsAsLate, IsLater, Shown, put_shown, Ticket, Call, put, get}
+use Rattle.group.specs.Model.Events.{open_snapshot, read, History, session_opened, wrote}
+use Rattle.group.specs.Model.Events.{snapshot_opened, read_by, snapshot_closed}
+use Rattle.group.specs.Model.Pasts.{site_of, of_session, of_put, HasInPast}
 use Rattle.group.specs.Model.Stores.{Store, Run, answer, then, then_all, history}
 
 -- What is shown of a key is put p or a later one; none is older than every put, and so is a refusal.
@@ -46,25 +48,29 @@ module _ (S : Store) where
   -- What holds after a run.
   pub record Promises (r : Run S) : Type 0 where
     -- (a) a put is later than each put of its key in its past
-    pub put_later : (p q : Put) → Past (history S r) (of_put p) q → q.key ≡ p.key → IsLater p q
+    pub put_later : (p q : Put) → HasInPast (history S r) (of_put p) q → q.key ≡ p.key → IsLater p q
     -- for each put in a session's past, a get of that key would now show the session this put or a later one
-    pub get_shows_past : (session : ℕ) (p : Put) → Past (history S r) (of_session session) p → ShowsAsLate p.key (answer S r (get session p.key)) p
+    pub get_shows_past : (session : ℕ) (p : Put) → HasInPast (history S r) (of_session session) p
+        → ShowsAsLate p.key (answer S r (get session p.key)) p
     -- (b) an open snapshot would now answer a read of each key as right after its opening, and does not refuse it
-    pub snapshot_stays : (session partition : ℕ) (ticket : Ticket) → answer S r (open_snapshot session partition) ≡ Ok ticket →
-        (calls : List Call) →
+    pub snapshot_stays : (session partition : ℕ) (ticket : Ticket)
+        → answer S r (open_snapshot session partition) ≡ Ok ticket → (calls : List Call) →
         let opened = then S r (open_snapshot session partition) in
         let now = then_all S opened calls in
-        IsOpen ticket (history S now) → (key : ℕ) → IsSameAnswer (answer S now (read ticket key)) (answer S opened (read ticket key))
+        IsOpen ticket (history S now) → (key : ℕ)
+        → IsSameAnswer (answer S now (read ticket key)) (answer S opened (read ticket key))
     -- of one snapshot's answers, not one is older than a put of its key in the past of any of them
     pub snapshot_whole : (ticket : Ticket) (key other : ℕ) (o : Option Shown) (v : Shown) (p : Put) →
         IsIn (read_by ticket key o) (history S r) → IsIn (read_by ticket other (Some v)) (history S r) →
-        Past (history S r) (of_put (put_shown other v)) p → p.key ≡ key → ShowsAsLate key (Ok o) p
+        HasInPast (history S r) (of_put (put_shown other v)) p → p.key ≡ key → ShowsAsLate key (Ok o) p
     -- (c) with every outbox empty, any two sites hold the same latest version of each key, or neither holds one
-    pub sites_agree : S.Quiet r.state → (site other key : ℕ) → site < S.sites → other < S.sites → (v w : Option Version) →
-        IsLatest any_version key (S.holds r.state site) v → IsLatest any_version key (S.holds r.state other) w → v ≡ w
+    pub sites_agree : S.IsQuiet r.state → (site other key : ℕ) → site < S.sites → other < S.sites
+        → (v w : Option Version) → IsLatest any_version key (S.holds r.state site) v
+        → IsLatest any_version key (S.holds r.state other) w → v ≡ w
     -- no two puts have one name
-    pub put_new : (session key kind amount stamp : ℕ) (x : Value) → answer S r (put session key kind amount) ≡ Ok stamp →
-        WasPut (history S r) (record { key = key; stamp = stamp; source = site_of (history S r) session }) x → ⊥
+    pub put_new : (session key kind amount stamp : ℕ) (x : Value)
+        → answer S r (put session key kind amount) ≡ Ok stamp
+        → WasPut (history S r) (record { key = key; stamp = stamp; source = site_of (history S r) session }) x → ⊥
     -- what is shown of a key was put, with that key, value, stamp and source
     pub get_honest : (session key : ℕ) (v : Shown) → answer S r (get session key) ≡ Ok (Some v) →
         WasPut (history S r) (put_shown key v) v.value
@@ -72,13 +78,16 @@ module _ (S : Store) where
         WasPut (history S r) (put_shown key v) v.value
     -- A get of a session that was opened is answered: none exactly when the site holds no version of that key that the
     -- session may see.
-    pub get_answers : (session key : ℕ) → WasOpened session (history S r) → (o : Option Shown) × (answer S r (get session key) ≡ Ok o)
-    pub get_none : (session key : ℕ) → answer S r (get session key) ≡ Ok None →
-        (v : Version) → IsIn v (S.holds r.state (site_of (history S r) session)) → v.key ≡ key → S.may_see r.state session v ≢ true
-    pub get_some : (session key : ℕ) (v : Shown) → answer S r (get session key) ≡ Ok (Some v) →
-        (w : Version) × IsIn w (S.holds r.state (site_of (history S r) session)) × (w.key ≡ key) × (S.may_see r.state session w ≡ true)
+    pub get_answers : (session key : ℕ) → WasOpened session (history S r)
+        → (o : Option Shown) × (answer S r (get session key) ≡ Ok o)
+    pub get_none : (session key : ℕ) → answer S r (get session key) ≡ Ok None
+        → (v : Version) → IsIn v (S.holds r.state (site_of (history S r) session)) → v.key ≡ key
+        → S.may_see r.state session v ≢ true
+    pub get_some : (session key : ℕ) (v : Shown) → answer S r (get session key) ≡ Ok (Some v)
+        → (w : Version) × IsIn w (S.holds r.state (site_of (history S r) session)) × (w.key ≡ key)
+        × (S.may_see r.state session w ≡ true)
     -- the capacities and ranges hold
-    pub bounded : S.Bounded r.state
+    pub bounded : S.IsBounded r.state
 
   -- The promises hold right after the making and after every list of calls.
   abbrev pub KeepsPromises : S.State → Type 0

@@ -10,7 +10,8 @@ use Rattle.group.specs.Model.Stores.{Run, then_all}
 
 -- the run of these calls, from the making of a group of so many sites and partitions
 abbrev pub run_of : (rule : Rule) (kind : Kind) (sites partitions : ℕ) → List Call → Run (group_store rule kind sites)
-run_of rule kind sites partitions calls = then_all (group_store rule kind sites) (record { events = []; state = new_group sites partitions }) calls
+run_of rule kind sites partitions calls =
+    then_all (group_store rule kind sites) (record { events = []; state = new_group sites partitions }) calls
 
 -- Calls lead to this group from the making of one.
 pub record IsReached (rule : Rule) (kind : Kind) (g : GroupState) : Type 0 where
@@ -23,4 +24,5 @@ pub record StillKeeps (rule : Rule) (kind : Kind) (g : GroupState) : Type 0 wher
   pub calls : List Call
   pub leads : (run_of rule kind g.sites g.partitions calls).state ≡ g
   pub promises : (more : List Call) →
-      Promises (group_store rule kind g.sites) (then_all (group_store rule kind g.sites) (run_of rule kind g.sites g.partitions calls) more)
+      let S = group_store rule kind g.sites in
+      Promises S (then_all S (run_of rule kind g.sites g.partitions calls) more)

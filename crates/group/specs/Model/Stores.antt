@@ -9,13 +9,13 @@ pub record Store : Type 1 where
   -- the answer to a next call, and the state after it
   pub ask : State → (call : Call) → Answer call × State
   -- every outbox is empty
-  pub Quiet : State → Type 0
+  pub IsQuiet : State → Type 0
   -- the versions that a site's servers hold
   pub holds : State → ℕ → List Version
   -- whether a session may see a version that its site holds
   pub may_see : State → ℕ → Version → Bool
   -- the capacities and ranges hold
-  pub Bounded : State → Type 0
+  pub IsBounded : State → Type 0
 
 -- What was called and answered, the newest first, and the state then.
 pub record Run (S : Store) : Type 0 where
@@ -27,7 +27,8 @@ module _ (S : Store) where
   answer r call = (S.ask r.state call).0
 
   abbrev pub then : Run S → Call → Run S
-  then r call = record { events = record { call = call; answer = answer r call } ∷ r.events; state = (S.ask r.state call).1 }
+  then r call =
+      record { events = record { call = call; answer = answer r call } ∷ r.events; state = (S.ask r.state call).1 }
 
   -- the calls of a list, one after the other
   abbrev pub then_all : Run S → List Call → Run S

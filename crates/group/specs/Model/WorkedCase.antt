@@ -1,19 +1,23 @@
 -- A worked case: a percentage overtakes its basis on the way to another site, and is not shown before it.
-use Rattle.std.specs.Prelude.{◌≡◌, List, [], ◌∷◌, map, reverse, Some, None, Ok, Err, refl}
+use Rattle.std.specs.Prelude.{◌≡◌, ℕ, List, [], ◌∷◌, map, reverse, Some, None, Ok, Err, refl}
 use Rattle.stamps.specs.declared.refusal.Refusal.TheVariants.{NothingWaits}
 use Rattle.stamps.specs.Clocks.{hybrid}
 use Rattle.stamps.specs.Stamps.{stamp_of}
 use Rattle.stamps.specs.BuiltKinds.{each_kind}
 use Rattle.servers.specs.Percents.{percent_of}
-use Rattle.servers.specs.declared.value.Value.TheVariants.{Percent, Basis as BasisOf}
+use Rattle.servers.specs.declared.value.Value.{Value}
+use Rattle.servers.specs.declared.value.Value.TheVariants.{Percent, Basis}
 use Rattle.servers.specs.declared.value.Basis.TheVariants.{Sheet}
-use Rattle.group.specs.Model.Events.{Event, Call, open_session, tell, put, get, heartbeat, deliver, report, stabilise}
-use Rattle.group.specs.Model.Groups.{new_group}
-use Rattle.group.specs.Model.GroupStore.{group_store}
-use Rattle.group.specs.Model.Stores.{then_all}
+use Rattle.group.specs.Model.Events.{Event, Call, Shown, open_session, tell, put, get, heartbeat, deliver}
+use Rattle.group.specs.Model.Events.{report, stabilise}
+use Rattle.group.specs.Model.Reached.{run_of}
 
--- The calls with their answers, in order. Key 2 is a basis and key 3 a percentage; a basis of kind 3 and amount 1 is the
--- whole sheet, and 1,200 hundredths are 12 percent.
+-- what is shown of a version that was put at site 0
+abbrev pub shown : Value → ℕ → Shown
+shown value stamp = record { value = value; stamp = stamp; source = 0 }
+
+-- The calls with their answers, in order. Key 2 is a basis and key 3 a percentage; a basis of kind 3 and amount 1 is
+-- the whole sheet, and 1,200 hundredths are 12 percent.
 abbrev pub worked_events : List Event
 worked_events =
     record { call = open_session 0; answer = Ok 0 }
@@ -32,8 +36,8 @@ worked_events =
     ∷ record { call = deliver 0 1 0; answer = Ok tt }
     ∷ record { call = report 1 0; answer = Ok tt }
     ∷ record { call = stabilise 1 1; answer = Ok tt }
-    ∷ record { call = get 1 3; answer = Ok (Some (record { value = Percent (percent_of 1200 refl); stamp = stamp_of 100 1; source = 0 })) }
-    ∷ record { call = get 1 2; answer = Ok (Some (record { value = (BasisOf Sheet); stamp = stamp_of 100 0; source = 0 })) }
+    ∷ record { call = get 1 3; answer = Ok (Some (shown (Percent (percent_of 1200 refl)) (stamp_of 100 1))) }
+    ∷ record { call = get 1 2; answer = Ok (Some (shown (Basis Sheet) (stamp_of 100 0))) }
     ∷ record { call = deliver 0 1 0; answer = Err NothingWaits }
     ∷ []
 
@@ -41,6 +45,6 @@ abbrev pub call_of : Event → Call
 call_of e = e.call
 
 -- A group of two sites and two partitions, with the hybrid clock and a stamp for each site, answers these calls so.
-abbrev pub WorkedCase : Type 0
-WorkedCase =
-    reverse (then_all (group_store hybrid each_kind 2) (record { events = []; state = new_group 2 2 }) (map call_of worked_events)).events ≡ worked_events
+abbrev pub AnswersWorkedCase : Type 0
+AnswersWorkedCase =
+    reverse (run_of hybrid each_kind 2 2 (map call_of worked_events)).events ≡ worked_events

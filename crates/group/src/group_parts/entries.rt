@@ -26,7 +26,8 @@ impl<C: ClockRule, K: MarkKind> GroupParts<C, K> {
         kind: u8,
         amount: u32,
     ) -> Result<Stamp, Refusal>
-        ensures step { IsStep C.answer K.kind (view self.old) (call.put session key kind amount) result (view self.new) }
+        ensures step { IsStep C.answer K.kind (view self.old) (call.put session key kind amount) result
+            (view self.new) }
         ensures keeps { RefusalKeeps result (view self.old) (view self.new) }
     {
         if !self.has_session(session) {

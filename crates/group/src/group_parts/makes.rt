@@ -17,8 +17,8 @@ use stamps::clock_rule::ClockRule;
 use stamps::mark_kind::MarkKind;
 
 impl<C: ClockRule, K: MarkKind> GroupParts<C, K> {
-    // A group with nothing in it. It takes a checked layout, so it cannot be refused. From here on it keeps the promises,
-    // whatever calls are made.
+    // A group with nothing in it. It takes a checked layout, so it cannot be refused. From here on it keeps the
+    // promises, whatever calls are made.
     pub(crate) fn new(layout: Layout) -> Self
         ensures state { view result ≡ new_group layout.sites layout.partitions }
         ensures promises { KeepsPromises (group_store C.answer K.kind layout.sites) (view result) }

@@ -64,7 +64,8 @@ impl<C: ClockRule, K: MarkKind> GroupParts<C, K> {
 
     // A site has taken the next entry of a server's outbox.
     pub(crate) fn hand_over(&mut self, place: Place, to: Site)
-        ensures { view self.new ≡ with_server_at (view self.old) place (server_hand_over (server_at (view self.old) place) to) }
+        ensures { view self.new ≡ with_server_at (view self.old) place
+            (server_hand_over (server_at (view self.old) place) to) }
     {
         self.servers[place.index()].hand_over(to);
     }

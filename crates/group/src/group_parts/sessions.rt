@@ -53,12 +53,13 @@ impl<C: ClockRule, K: MarkKind> GroupParts<C, K> {
         self.sessions[number as usize] = session;
     }
 
-    // A session's server hears what the session knows, and the session knows its stable mark from then on. Answers where
-    // the server stands.
+    // A session's server hears what the session knows, and the session knows its stable mark from then on. Answers
+    // where the server stands.
     pub(crate) fn learn(&mut self, number: u8, partition: Partition) -> Place
         requires { number < length (view self.old).sessions }
         ensures place { result ≡ ((session_at (view self.old) number).site, partition) }
-        ensures state { view self.new ≡ learn K.kind (view self.old) number (session_at (view self.old) number) partition }
+        ensures state { view self.new ≡ learn K.kind (view self.old) number
+            (session_at (view self.old) number) partition }
     {
         let session = self.session_at(number);
         let place = Place {

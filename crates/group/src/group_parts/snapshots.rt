@@ -21,7 +21,8 @@ use stamps::row::Row;
 impl<C: ClockRule, K: MarkKind> GroupParts<C, K> {
     // A fixed view of the session's site, as far as one of its servers and the session know it to be stable.
     pub(crate) fn open_snapshot(&mut self, session: u8, partition: u8) -> Result<Ticket, Refusal>
-        ensures step { IsStep C.answer K.kind (view self.old) (call.open_snapshot session partition) result (view self.new) }
+        ensures step { IsStep C.answer K.kind (view self.old) (call.open_snapshot session partition) result
+            (view self.new) }
         ensures keeps { RefusalKeeps result (view self.old) (view self.new) }
     {
         let partition = self.layout.partition(partition)?;
