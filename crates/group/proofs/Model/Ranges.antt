@@ -11,7 +11,7 @@ use Rattle.servers.specs.Laws.{IsIn}
 use Rattle.servers.specs.Percents.{checked_percent}
 use Rattle.servers.specs.Values.{value_from}
 use Rattle.servers.specs.declared.value.Value.{Value}
-use Rattle.servers.specs.declared.value.Value.TheVariants.{Gone, Price, Percent, Basis as BasisOf}
+use Rattle.servers.specs.declared.value.Value.TheVariants.{Gone, Price, Percent, Basis}
 use Rattle.servers.specs.declared.value.Basis.TheVariants.{Part, Sheet}
 use Rattle.servers.specs.declared.version.Version.{Version}
 use Rattle.group.specs.Model.Events.{Put, wrote, History}
@@ -37,8 +37,8 @@ made_in_range kind amount =
     cond_both {A = Result Value Refusal} (eqb kind 0 && eqb amount 0) (Ok Gone) _ MadeInRange (λ _. tt)
     (λ _. cond_both {A = Result Value Refusal} (eqb kind 1 && ltb amount (2 ^ 32)) (Ok (Price amount)) _ MadeInRange (λ e. ltb-true amount (2 ^ 32) (and_parts (eqb kind 1) (ltb amount (2 ^ 32)) e).1)
     (λ _. cond_both {A = Result Value Refusal} (eqb kind 2) (result_map_both Percent (λ why. why) (checked_percent amount)) _ MadeInRange (λ _. percent_in_range (checked_percent amount))
-    (λ _. cond_both {A = Result Value Refusal} (eqb kind 3 && eqb amount 0) (Ok (BasisOf Part)) _ MadeInRange (λ _. tt)
-    (λ _. cond_both {A = Result Value Refusal} (eqb kind 3 && eqb amount 1) (Ok (BasisOf Sheet)) (Err Unlawful) MadeInRange (λ _. tt) (λ _. tt)))))
+    (λ _. cond_both {A = Result Value Refusal} (eqb kind 3 && eqb amount 0) (Ok (Basis Part)) _ MadeInRange (λ _. tt)
+    (λ _. cond_both {A = Result Value Refusal} (eqb kind 3 && eqb amount 1) (Ok (Basis Sheet)) (Err Unlawful) MadeInRange (λ _. tt) (λ _. tt)))))
 
 -- what was put is in range
 put_in_range : (h : History) (p : Put) (x : Value) → WasPut h p x → IsInRange x

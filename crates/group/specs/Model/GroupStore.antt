@@ -8,7 +8,7 @@ use Rattle.servers.specs.declared.entry.Entry.TheVariants.{Update, Heartbeat}
 use Rattle.servers.specs.Servers.{Rule, ServerState, sees}
 use Rattle.servers.specs.Laws.{IsIn}
 use Rattle.servers.specs.declared.value.Value.{Value}
-use Rattle.servers.specs.declared.value.Value.TheVariants.{Gone, Price, Percent, Basis as BasisOf}
+use Rattle.servers.specs.declared.value.Value.TheVariants.{Gone, Price, Percent, Basis}
 use Rattle.servers.specs.declared.value.Basis.TheVariants.{Part, Sheet}
 use Rattle.servers.specs.declared.version.Version.{Version}
 use Rattle.group.specs.Model.Calls.{step, informed_server}
@@ -36,8 +36,8 @@ abbrev pub IsInRange : Value → Type 0
 IsInRange Gone = Unit {0}
 IsInRange (Price cents) = cents < 2 ^ 32
 IsInRange (Percent percent) = percent.hundredths ≤ 10000
-IsInRange (BasisOf Part) = Unit {0}
-IsInRange (BasisOf Sheet) = Unit {0}
+IsInRange (Basis Part) = Unit {0}
+IsInRange (Basis Sheet) = Unit {0}
 
 -- Of a key nothing is asked here: its 16 bits are its type's in the code, and a call may be made with any.
 pub record IsVersionBounded (k : Kind) (sites : ℕ) (v : Version) : Type 0 where
