@@ -1,4 +1,4 @@
-// Prints how many bytes a group takes, at each pair of clock rule and kind of mark.
+//! Prints how many bytes a group takes, at each pair of clock rule and kind of mark.
 #![tactic(auto)]
 
 use group::group::Group;

@@ -4,5 +4,5 @@ use Rattle.stamps.specs.declared.refusal.Refusal.{Refusal}
 use Rattle.stamps.specs.Outside.{signed_number}
 
 -- what was answered, or minus the refusal's number, and the buffer after it
-abbrev pub with_number : Result ℕ Refusal × List ℕ → ℤ × List ℕ
-with_number (answer, buffer) = (signed_number answer, buffer)
+abbrev pub with_signed_number : Result ℕ Refusal × List ℕ → ℤ × List ℕ
+with_signed_number (answer, buffer) = (signed_number answer, buffer)

@@ -1,4 +1,4 @@
-// Tests of all crates, through what they make public.
+//! Tests of all crates, through what they make public.
 #![tactic(auto)]
 
 #[cfg(test)]

@@ -1,4 +1,4 @@
-// Lines as they are listed, and the buffers that they go into.
+//! Lines as they are listed, and the buffers that they go into.
 use group::group::Group;
 use group::layout::Draft;
 use script::list::{list, list_into};

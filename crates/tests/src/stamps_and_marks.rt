@@ -36,10 +36,38 @@ fn numbers_past_the_range_are_refused(rt: HostRuntime) -> Result<(), Fail> {
     Ok(())
 }
 
+/// All refusals, in the order of their numbers.
+const REFUSALS: [Refusal; 16] = [
+    Refusal::NotInLayout,
+    Refusal::NoSession,
+    Refusal::Unlawful,
+    Refusal::ReadingBehind,
+    Refusal::TableFull,
+    Refusal::OutboxFull,
+    Refusal::Early,
+    Refusal::End,
+    Refusal::NothingWaits,
+    Refusal::NoneFree,
+    Refusal::NotOpen,
+    Refusal::BadLayout,
+    Refusal::ShortCommand,
+    Refusal::UnknownLetter,
+    Refusal::LayoutMisplaced,
+    Refusal::ShortBuffer,
+];
+
 #[test]
-fn refusals_count_from_1_to_16(rt: HostRuntime) {
-    assert_eq!(rt; Refusal::NotInLayout.number(), 1);
-    assert_eq!(rt; Refusal::ShortBuffer.number(), 16);
+fn refusals_count_from_1_to_16_and_differ(rt: HostRuntime) -> Result<(), Fail> {
+    for (i, why) in REFUSALS.iter().enumerate() {
+        assert_eq!(rt; usize::from(why.number()), i + 1);
+        let text = format!(in rt.alloc(); "{why}")?;
+        assert!(rt; !text.is_empty(), "refusal {i}");
+        for other in &REFUSALS[..i] {
+            assert_ne!(rt; *why, *other);
+            assert_ne!(rt; text.as_str(), format!(in rt.alloc(); "{other}")?.as_str());
+        }
+    }
+    Ok(())
 }
 
 // A call that passes a refusal on by `?` ends with this text.
