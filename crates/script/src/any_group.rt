@@ -1,7 +1,7 @@
 //! A group of any of the clock rules and kinds of mark that are built, or none yet.
-ghost use Rattle.std.specs.Prelude.{◌≡◌, is_ok, IfOk};
+ghost use Rattle.std.specs.Prelude.{◌≡◌, is_ok};
 ghost use Rattle.script.specs.Promises.{KeepsAll, StillKeepsAll};
-ghost use Rattle.script.specs.ScriptGroups.{ScriptGroup, answer_of_making, group_of, group_or_refusal};
+ghost use Rattle.script.specs.ScriptGroups.{ScriptGroup, answer_of_making, group_of};
 ghost use Rattle.script.specs.ScriptGroups.{make_group, no_group, obey, script_group};
 
 use crate::answer::Answer;
@@ -73,23 +73,10 @@ impl AnyGroup {
         requires { script_group self.old ≡ no_group }
         ensures { (result, script_group self.new) ≡ answer_of_making (make_group command) }
     {
-        match make_group(command) {
-            Ok(made) => {
-                *self = made;
-                Ok(Answer::Done)
-            }
-            Err(why) => Err(why),
-        }
+        let choice = Choice::try_from(command)?;
+        *self = group_of(choice);
+        Ok(Answer::Done)
     }
-}
-
-/// The group that a script's first command makes. From here on it keeps the promises, whichever clock rule and kind of
-/// mark it has.
-pub(crate) fn make_group(command: Command) -> Result<AnyGroup, Refusal>
-    ensures value { group_or_refusal script_group result ≡ make_group command }
-    ensures promises { IfOk result (λ made. KeepsAll (script_group made)) }
-{
-    Ok(group_of(Choice::try_from(command)?))
 }
 
 /// A new group as it was chosen.
