@@ -1,10 +1,11 @@
 -- The common floor: how a loop makes it, and that it is the greatest mark that every row covers.
 use Rattle.std.proofs.Common.{◌≡◌, ℕ, ◌+◌, ◌<◌, List, [], ◌∷◌, ◌++◌, length, get_or, take, sym, ap, subst, ◌∙◌, arith, lit<}
+use Rattle.std.specs.List.{AllByRecursion}
 use Rattle.std.proofs.lemmas.List.{take_more}
 use Rattle.stamps.specs.Rows.{PerSite, HasStamps, same, meet, Covers}
 use Rattle.stamps.specs.Stamps.{top_stamp}
 use Rattle.stamps.specs.Kinds.{Kind, IsLawfulKind}
-use Rattle.stamps.specs.CommonFloors.{common_floor, AllCover, IsGreatestCommon}
+use Rattle.stamps.specs.CommonFloors.{common_floor, IsGreatestCommon}
 use Rattle.stamps.proofs.Rows.{covers_trans, meet_left, meet_right, meet_greatest, meet_assoc, meet_comm}
 
 -- one row more at the end
@@ -19,7 +20,9 @@ pub common_floor_more : (k : Kind) (rs : List PerSite) (i : ℕ) (r : PerSite) �
 common_floor_more k rs i r h e =
     ap (λ xs. common_floor k xs) (take_more rs i r h ∙ ap (λ s. take i rs ++ (s ∷ [])) (sym e)) ∙ common_floor_push k (take i rs) r
 
-all_cover_below : (rs : List PerSite) (x y : PerSite) → Covers x y → AllCover rs x → AllCover rs y
+-- rows that cover a mark cover what that mark covers
+all_cover_below : (rs : List PerSite) (x y : PerSite) → Covers x y
+    → AllByRecursion (λ r. Covers r x) rs → AllByRecursion (λ r. Covers r y) rs
 all_cover_below [] x y h a = tt
 all_cover_below (r ∷ rs) x y h a = (covers_trans r x y a.0 h, all_cover_below rs x y h a.1)
 
@@ -28,8 +31,7 @@ floor_stamps k l r s = let b = l.floor_below r s in (omega arith, omega arith, o
 
 -- each row is one of stamps
 abbrev pub AllStamps : List PerSite → Type 0
-AllStamps [] = Unit {0}
-AllStamps (r ∷ rs) = HasStamps r × AllStamps rs
+AllStamps rs = AllByRecursion HasStamps rs
 
 all_stamps_push : (rs : List PerSite) (r : PerSite) → AllStamps rs → HasStamps r → AllStamps (rs ++ r ∷ [])
 all_stamps_push [] r a s = (s, tt)

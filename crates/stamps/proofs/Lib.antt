@@ -1,3 +1,2 @@
-pub mod Greatest
 pub mod Rows
 pub mod CommonFloors

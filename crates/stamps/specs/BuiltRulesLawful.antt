@@ -13,21 +13,27 @@ raw_allowed : (p q : Bool) (last reading dependency : ℕ) → reading < 2 ^ 47
     → IsAllowed last dependency (if p || q then Err Early else Ok (stamp_of reading 0))
 raw_allowed true q last reading dependency r a b = inl refl
 raw_allowed false true last reading dependency r a b = inl refl
-raw_allowed false false last reading dependency r a b = (omega (arith, leb-false), omega (arith, leb-false), omega arith)
+raw_allowed false false last reading dependency r a b =
+    (omega (arith, leb-false), omega (arith, leb-false), omega arith)
 
 pub raw_lawful : IsLawfulRule raw
-raw_lawful = record { allowed = λ last reading dependency _ r _. raw_allowed _ _ last reading dependency r refl refl }
+raw_lawful =
+    record { allowed = λ last reading dependency _ r _. raw_allowed _ _ last reading dependency r refl refl }
 
--- the count that a hybrid stamp has before the carry
-abbrev count : ℕ → ℕ → ℕ → ℕ
-count last time dependency = new_count (time_of last == time) (time_of dependency == time) (count_of last) (count_of dependency)
+-- the stamp that hybrid answers, once neither of the two is the top stamp
+abbrev next : ℕ → ℕ → ℕ → ℕ
+next last reading dependency =
+    let time = new_time last reading dependency in
+    carry time (new_count (time_of last == time) (time_of dependency == time) (count_of last) (count_of dependency))
 
 hybrid_allowed : (p q : Bool) (last reading dependency : ℕ) → last < 2 ^ 63 → reading < 2 ^ 47 → dependency < 2 ^ 63
     → (last == top_stamp) ≡ p → (dependency == top_stamp) ≡ q
-    → IsAllowed last dependency (if p || q then Err End else Ok (carry (new_time last reading dependency) (count last (new_time last reading dependency) dependency)))
+    → IsAllowed last dependency (if p || q then Err End else Ok (next last reading dependency))
 hybrid_allowed true q last reading dependency l r d a b = inr refl
 hybrid_allowed false true last reading dependency l r d a b = inr refl
-hybrid_allowed false false last reading dependency l r d a b = (grind (arith, nat_tests), grind (arith, nat_tests), grind (arith, nat_tests))
+hybrid_allowed false false last reading dependency l r d a b =
+    (grind (arith, nat_tests), grind (arith, nat_tests), grind (arith, nat_tests))
 
 pub hybrid_lawful : IsLawfulRule hybrid
-hybrid_lawful = record { allowed = λ last reading dependency l r d. hybrid_allowed _ _ last reading dependency l r d refl refl }
+hybrid_lawful =
+    record { allowed = λ last reading dependency l r d. hybrid_allowed _ _ last reading dependency l r d refl refl }

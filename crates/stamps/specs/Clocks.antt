@@ -1,5 +1,6 @@
 -- Clock rules: what every rule owes, and the two that are built.
-use Rattle.std.specs.Prelude.{◌≡◌, ℕ, ◌+◌, ◌^◌, ◌<◌, max, Bool, true, false, if◌then◌else◌, ◌||◌, ◌⊎◌, Ok, Err, Result, ◌==◌, nat_le, nat_lt}
+use Rattle.std.specs.Prelude.{◌≡◌, ℕ, ◌+◌, ◌^◌, ◌<◌, max, Bool, true, false, if◌then◌else◌, ◌||◌, ◌⊎◌}
+use Rattle.std.specs.Prelude.{Ok, Err, Result, ◌==◌, nat_le, nat_lt}
 use Rattle.stamps.specs.declared.refusal.Refusal.{Refusal}
 use Rattle.stamps.specs.declared.refusal.Refusal.TheVariants.{Early, End}
 use Rattle.stamps.specs.Stamps.{top_stamp, stamp_of, time_of, count_of}
@@ -10,12 +11,14 @@ IsAllowed last dependency (Ok stamp) = (last < stamp) × (dependency < stamp) ×
 IsAllowed last dependency (Err why) = (why ≡ Early) ⊎ (why ≡ End)
 
 pub record IsLawfulRule (answer : ℕ → ℕ → ℕ → Result ℕ Refusal) : Type 0 where
-  pub allowed : (last reading dependency : ℕ) → last < 2 ^ 63 → reading < 2 ^ 47 → dependency < 2 ^ 63 → IsAllowed last dependency (answer last reading dependency)
+  pub allowed : (last reading dependency : ℕ) → last < 2 ^ 63 → reading < 2 ^ 47 → dependency < 2 ^ 63
+      → IsAllowed last dependency (answer last reading dependency)
 
 -- raw: the reading's first stamp, if that is above both
 abbrev pub raw : ℕ → ℕ → ℕ → Result ℕ Refusal
 raw last reading dependency =
-    if nat_le (stamp_of reading 0) last || nat_le (stamp_of reading 0) dependency then Err Early else Ok (stamp_of reading 0)
+    let stamp = stamp_of reading 0 in
+    if nat_le stamp last || nat_le stamp dependency then Err Early else Ok stamp
 
 -- hybrid: the greatest of the three times
 abbrev pub new_time : ℕ → ℕ → ℕ → ℕ
@@ -35,4 +38,5 @@ carry time count = if nat_lt 65535 count then stamp_of (time + 1) 0 else stamp_o
 abbrev pub hybrid : ℕ → ℕ → ℕ → Result ℕ Refusal
 hybrid last reading dependency =
     let time = new_time last reading dependency in
-    if last == top_stamp || dependency == top_stamp then Err End else Ok (carry time (new_count (time_of last == time) (time_of dependency == time) (count_of last) (count_of dependency)))
+    let count = new_count (time_of last == time) (time_of dependency == time) (count_of last) (count_of dependency) in
+    if last == top_stamp || dependency == top_stamp then Err End else Ok (carry time count)

@@ -1,11 +1,10 @@
 -- The worked edges of both clock rules and of floor, as one table that the checker computes.
-use Rattle.std.specs.Prelude.{◌≡◌, ℕ, List, [], ◌∷◌, ◌++◌, ℤ, pos, Ok, Err, Result}
+use Rattle.std.specs.Prelude.{◌≡◌, ℕ, List, [], ◌∷◌, Ok, Err, Result}
 use Rattle.stamps.specs.declared.refusal.Refusal.{Refusal}
 use Rattle.stamps.specs.declared.refusal.Refusal.TheVariants.{Early}
 use Rattle.stamps.specs.Stamps.{stamp_of}
-use Rattle.stamps.specs.Rows.{PerSite, same}
+use Rattle.stamps.specs.Rows.{PerSite, row_of, same}
 use Rattle.stamps.specs.Clocks.{raw, hybrid}
-use Rattle.stamps.specs.Outside.{signed_number}
 use Rattle.stamps.specs.BuiltKinds.{one_kind, each_kind}
 
 pub data Edge : Type 0 where
@@ -13,9 +12,6 @@ pub data Edge : Type 0 where
   stamped : (ℕ → ℕ → ℕ → Result ℕ Refusal) → ℕ → ℕ → ℕ → Result ℕ Refusal → Edge
   -- a kind's floor, a row, and the floor of that row
   floored : (PerSite → PerSite) → PerSite → PerSite → Edge
-
-abbrev pub row5394 : PerSite
-row5394 = record { site0 = 5; site1 = 3; site2 = 9; site3 = 4 }
 
 abbrev pub edges : List Edge
 edges =
@@ -25,26 +21,10 @@ edges =
     ∷ stamped raw (stamp_of 100 0) 100 (stamp_of 0 0) (Err Early)
     ∷ stamped raw (stamp_of 100 0) 101 (stamp_of 0 0) (Ok (stamp_of 101 0))
     ∷ stamped raw (stamp_of 0 0) 100 (stamp_of 100 0) (Err Early)
-    ∷ floored one_kind.floor row5394 (same 3)
-    ∷ floored each_kind.floor row5394 row5394
+    ∷ floored one_kind.floor (row_of 5 3 9 4) (same 3)
+    ∷ floored each_kind.floor (row_of 5 3 9 4) (row_of 5 3 9 4)
     ∷ []
 
 abbrev pub Holds : Edge → Type 0
 Holds (stamped rule last reading dependency answer) = rule last reading dependency ≡ answer
 Holds (floored floor row answer) = floor row ≡ answer
-
-abbrev pub AllHold : List Edge → Type 0
-AllHold [] = Unit {0}
-AllHold (e ∷ es) = Holds e × AllHold es
-
--- the numbers of an edge's answer
-abbrev pub entries_of : PerSite → List ℤ
-entries_of row = pos row.site0 ∷ pos row.site1 ∷ pos row.site2 ∷ pos row.site3 ∷ []
-
-abbrev pub answer_of : Edge → List ℤ
-answer_of (stamped rule last reading dependency answer) = signed_number answer ∷ []
-answer_of (floored floor row answer) = entries_of answer
-
-abbrev pub answers_of : List Edge → List ℤ
-answers_of [] = []
-answers_of (e ∷ es) = answer_of e ++ answers_of es

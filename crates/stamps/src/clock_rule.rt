@@ -1,4 +1,4 @@
-// What a clock rule is.
+//! What a clock rule is.
 ghost use Rattle.std.specs.Prelude.{◌≡◌, ℕ, Result};
 ghost use Rattle.stamps.specs.declared.refusal.Refusal.{Refusal};
 ghost use Rattle.stamps.specs.Clocks.{IsAllowed, IsLawfulRule};
@@ -8,11 +8,12 @@ use crate::reading::Reading;
 use crate::refusal::Refusal;
 use crate::stamp::Stamp;
 
-// A way to make the next stamp of a server.
+/// A way to make the next stamp of a server.
 pub trait ClockRule {
     // What the rule answers to a last stamp, a reading and a dependency stamp.
     ghost answer: { ℕ → ℕ → ℕ → Result ℕ Refusal };
 
+    /// The next stamp, above the server's last one and above what it depends on; or `Early`, or `End`.
     // The three are all that a rule is asked. No struct has them: nothing keeps them together before or after.
     fn stamp(last: Stamp, reading: Reading, dependency: Stamp) -> Result<Stamp, Refusal>
         ensures value { result ≡ answer last reading dependency }
@@ -22,7 +23,7 @@ pub trait ClockRule {
     ghost lawful: { IsLawfulRule answer };
 }
 
-/// The next stamp of a server by a rule: what the rule answers, as a stamp that a clock rule has given.
+/// What a rule answers, as the stamp of an entry.
 pub fn next_stamp<C: ClockRule>(
     last: Stamp,
     reading: Reading,

@@ -1,4 +1,4 @@
-// The common floor of a run of rows, for every kind of mark.
+//! The common floor of a run of rows, for every kind of mark.
 ghost use Rattle.std.specs.Prelude.{◌≡◌};
 ghost use Rattle.stamps.specs.Rows.{same};
 ghost use Rattle.stamps.specs.Stamps.{top_stamp};
@@ -8,8 +8,9 @@ use crate::mark_kind::MarkKind;
 use crate::row::Row;
 use crate::stamp::Stamp;
 
-// The greatest mark that every row of the run covers; of no rows, the top stamp at each entry.
-// Each row is taken as a mark by the kind's floor.
+/// The greatest mark that every row of the run covers; of no rows, the top stamp at each entry.
+///
+/// Each row is taken as a mark by the kind's floor.
 pub fn common_floor<K: MarkKind>(rows: &[Row]) -> K::Mark
     ensures value { K.MarkKind.meaning result ≡ common_floor K.MarkKind.kind rows.now }
     ensures greatest { IsGreatestCommon K.MarkKind.kind rows.now (K.MarkKind.meaning result) }

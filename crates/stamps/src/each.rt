@@ -1,4 +1,4 @@
-// The kind of mark that is a stamp for each site.
+//! The kind of mark that is a stamp for each site.
 ghost use Rattle.stamps.specs.BuiltKinds.{each_kind};
 ghost use Rattle.std.proofs.Common.{rules};
 
@@ -7,6 +7,8 @@ use crate::row::Row;
 use crate::site::Site;
 use crate::stamp::Stamp;
 
+/// A mark is a row: any row is one.
+#[derive(Clone, Copy, Debug)]
 pub struct Each;
 
 impl MarkKind for Each {

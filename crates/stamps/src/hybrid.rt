@@ -1,4 +1,4 @@
-// The hybrid logical clock: the greatest time known, and a count within it.
+//! The hybrid logical clock: the greatest time known, and a count within it.
 ghost use Rattle.std.specs.Prelude.{◌≡◌, ◌+◌, ◌^◌, ◌<◌, ◌≤◌};
 ghost use Rattle.stamps.specs.Clocks.{hybrid as hybrid_rule, carry};
 ghost use Rattle.stamps.specs.Stamps.{stamp_of};
@@ -9,6 +9,8 @@ use crate::reading::Reading;
 use crate::refusal::Refusal;
 use crate::stamp::{COUNTS, Stamp};
 
+/// Never early; at its end once one of the two stamps is the top stamp.
+#[derive(Clone, Copy, Debug)]
 pub struct Hybrid;
 
 impl ClockRule for Hybrid {

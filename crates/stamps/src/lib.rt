@@ -1,4 +1,4 @@
-// Stamps, the clock rules that make them, rows of stamps, and kinds of mark with their common floor.
+//! Stamps, the clock rules that make them, rows of stamps, and kinds of mark with their common floor.
 #![tactic(auto)]
 
 pub mod clock_rule;

@@ -1,4 +1,4 @@
-// What a kind of mark is.
+//! What a kind of mark is.
 ghost use Rattle.std.specs.Prelude.{◌≡◌, ℕ};
 ghost use Rattle.stamps.specs.Rows.{PerSite, HasStamps, covers, join, meet};
 ghost use Rattle.stamps.specs.Kinds.{Kind, IsMark, IsLawfulKind};
@@ -7,12 +7,12 @@ use crate::row::Row;
 use crate::site::Site;
 use crate::stamp::Stamp;
 
-// A mark is what a kind keeps of a row: every mark means a row, and a kind may not be able to mean every row.
+/// A mark is what a kind keeps of a row: every mark means a row, and a kind may not be able to mean every row.
 pub trait MarkKind {
-    // The form of a mark.
+    /// The form of a mark.
     type Mark: Copy;
 
-    // How many stamps a mark has.
+    /// How many stamps a mark has.
     const COLUMNS: usize;
 
     ghost COLUMNS: { ℕ };
@@ -23,36 +23,37 @@ pub trait MarkKind {
     // The row of a mark.
     ghost meaning: { Self.Mark → PerSite };
 
+    /// How many stamps a mark has.
     fn column_count() -> usize
         ensures { result ≡ kind.columns }
     {
         Self::COLUMNS
     }
 
-    // It is a row that the kind can mean.
+    /// The row that a mark means.
     fn row(mark: Self::Mark) -> Row
         ensures value { result ≡ meaning mark }
         ensures means { IsMark kind result };
 
-    // Whether a's row is at least b's at each entry.
+    /// Whether a's row is at least b's at each entry.
     fn covers(a: Self::Mark, b: Self::Mark) -> bool
         ensures { result ≡ covers (meaning a) (meaning b) };
 
-    // The greater at each entry.
+    /// The greater at each entry.
     fn join(a: Self::Mark, b: Self::Mark) -> Self::Mark
         ensures { meaning result ≡ join (meaning a) (meaning b) };
 
-    // The lesser at each entry.
+    /// The lesser at each entry.
     fn meet(a: Self::Mark, b: Self::Mark) -> Self::Mark
         ensures { meaning result ≡ meet (meaning a) (meaning b) };
 
-    // The greatest mark that the row covers.
+    /// The greatest mark that the row covers.
     fn floor(row: Row) -> Self::Mark
         ensures value { meaning result ≡ kind.floor row }
         ensures means { IsMark kind (meaning result) }
         ensures stamps { HasStamps row };
 
-    // The least mark with at least this stamp at this site.
+    /// The least mark with at least this stamp at this site.
     fn lift(site: Site, stamp: Stamp) -> Self::Mark
         ensures { meaning result ≡ kind.lift site stamp };
 

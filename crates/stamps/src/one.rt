@@ -1,4 +1,4 @@
-// The kind of mark that is one stamp, the same for every site.
+//! The kind of mark that is one stamp, the same for every site.
 ghost use Rattle.stamps.specs.Rows.{same};
 ghost use Rattle.stamps.specs.BuiltKinds.{one_kind};
 ghost use Rattle.std.proofs.Common.{rules};
@@ -8,6 +8,8 @@ use crate::row::Row;
 use crate::site::Site;
 use crate::stamp::Stamp;
 
+/// A mark is a stamp: its row has that stamp at each site.
+#[derive(Clone, Copy, Debug)]
 pub struct One;
 
 impl MarkKind for One {

@@ -1,4 +1,4 @@
-// Clock rules and kinds of mark, asked with plain numbers: these are checked first, stamps before readings and sites.
+//! Clock rules and kinds of mark, asked with plain numbers: these are checked first, stamps before readings and sites.
 ghost use Rattle.std.specs.Prelude.{◌≡◌};
 ghost use Rattle.stamps.specs.Outside.{stamp_from, signed_number, floor_from, lift_from, row_or_refusal};
 
@@ -10,7 +10,7 @@ use crate::row::Row;
 use crate::site::Site;
 use crate::stamp::Stamp;
 
-// The stamp that a rule answers to three numbers.
+/// What a rule answers to three numbers. `Unlawful` if one of them is no stamp or no reading.
 pub fn stamp_from<C: ClockRule>(last: u64, reading: u64, dependency: u64) -> Result<Stamp, Refusal>
     ensures { result ≡ stamp_from C.ClockRule.answer last reading dependency }
 {
@@ -20,7 +20,7 @@ pub fn stamp_from<C: ClockRule>(last: u64, reading: u64, dependency: u64) -> Res
     C::stamp(last, reading, dependency)
 }
 
-// An answer as one signed number, for callers in other languages: the stamp, or minus the refusal's number.
+// An answer as one signed number, for callers in other languages.
 fn signed(answer: Result<Stamp, Refusal>) -> i64
     ensures { result ≡ signed_number answer }
 {
@@ -30,21 +30,21 @@ fn signed(answer: Result<Stamp, Refusal>) -> i64
     }
 }
 
-// A rule on plain numbers alone.
+/// The same as one signed number: the stamp, or minus the refusal's number.
 pub fn signed_stamp<C: ClockRule>(last: u64, reading: u64, dependency: u64) -> i64
     ensures { result ≡ signed_number (stamp_from C.ClockRule.answer last reading dependency) }
 {
     signed(stamp_from::<C>(last, reading, dependency))
 }
 
-// The floor of four numbers as a row.
+/// The floor of four numbers as a row. `Unlawful` if one of them is no stamp.
 pub fn floor_from<K: MarkKind>(entries: [u64; 4]) -> Result<K::Mark, Refusal>
     ensures { row_or_refusal K.MarkKind.meaning result ≡ floor_from K.MarkKind.kind entries }
 {
     Ok(K::floor(Row::try_from(entries)?))
 }
 
-// The lift of a site and a stamp.
+/// The lift of a stamp at a site. `Unlawful` if it is no stamp; `NotInLayout` if it is no site.
 pub fn lift_from<K: MarkKind>(site: u8, stamp: u64) -> Result<K::Mark, Refusal>
     ensures { row_or_refusal K.MarkKind.meaning result ≡ lift_from K.MarkKind.kind site stamp }
 {

@@ -1,4 +1,4 @@
-// The raw rule: the physical clock alone, refused while it is not ahead.
+//! The raw rule: the physical clock alone, refused while it is not ahead.
 ghost use Rattle.stamps.specs.Clocks.{raw as raw_rule};
 ghost use Rattle.stamps.specs.BuiltRulesLawful.{raw_lawful};
 
@@ -7,6 +7,8 @@ use crate::reading::Reading;
 use crate::refusal::Refusal;
 use crate::stamp::Stamp;
 
+/// The first stamp of the reading; early while that is not above both stamps.
+#[derive(Clone, Copy, Debug)]
 pub struct Raw;
 
 impl ClockRule for Raw {

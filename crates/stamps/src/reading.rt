@@ -1,8 +1,13 @@
-// What a server's physical clock shows.
+//! What a server's physical clock shows.
+ghost use Rattle.std.specs.Prelude.{◌≡◌, ◌^◌, ◌<◌};
+ghost use Rattle.stamps.specs.Checks.{checked_reading};
+
+use crate::refusal::Refusal;
 use std::marker::Model;
 
-// A time of 47 bits. No stamp of another range: a clock rule takes both, and they are not to be exchanged.
-#[derive(Clone, Copy, PartialEq, Eq, PartialOrd, Ord)]
+/// A time of 47 bits. The default is 0, which a clock shows before it was told a time.
+// No stamp of another range: a clock rule takes both, and they are not to be exchanged.
+#[derive(Clone, Copy, Debug, Default, PartialEq, Eq, PartialOrd, Ord, Hash)]
 pub struct Reading {
     time: u64,
 }
@@ -20,4 +25,33 @@ impl Model for Reading {
     ghost inverse = { λ n. record { time = n } };
 }
 
-mod methods;
+/// The reading of a plain number. `Unlawful` from 2^47 on.
+impl TryFrom<u64> for Reading {
+    type Error = Refusal;
+
+    ghost try_from_gives = { λ time reading. reading ≡ checked_reading time };
+
+    fn try_from(time: u64) -> Result<Reading, Refusal> {
+        if time >= 1 << 47 {
+            return Err(Refusal::Unlawful);
+        }
+        Ok(Reading { time })
+    }
+}
+
+impl Reading {
+    /// What a clock shows before it was told a time.
+    pub fn zero() -> Reading
+        ensures { result ≡ 0 }
+    {
+        Reading { time: 0 }
+    }
+
+    /// The time, in the unit of a stamp's time: below 2^47.
+    pub fn time(self) -> u64
+        ensures value { result ≡ self }
+        ensures below { result < 2 ^ 47 }
+    {
+        self.time
+    }
+}

@@ -1,10 +1,14 @@
-// The number of a site.
+//! The number of a site.
+ghost use Rattle.std.specs.Prelude.{◌≡◌};
+ghost use Rattle.stamps.specs.Checks.{checked_site};
+
+use crate::refusal::Refusal;
 use std::marker::Model;
 
-// From 0 to 3: a row has an entry for each.
-#[derive(Clone, Copy, Debug, Default, PartialEq, Eq, PartialOrd, Ord)]
+/// A site's number, from 0 to 3: a row has an entry for each. The default is 0.
+#[derive(Clone, Copy, Debug, Default, PartialEq, Eq, PartialOrd, Ord, Hash)]
 pub struct Site {
-    pub(crate) number: u8,
+    number: u8,
 }
 
 // In clauses a site is its number.
@@ -20,4 +24,25 @@ impl Model for Site {
     ghost inverse = { λ n. record { number = n } };
 }
 
-mod methods;
+/// The site of a plain number. `NotInLayout` from 4 on.
+impl TryFrom<u8> for Site {
+    type Error = Refusal;
+
+    ghost try_from_gives = { λ number site. site ≡ checked_site number };
+
+    fn try_from(number: u8) -> Result<Site, Refusal> {
+        if number >= 4 {
+            return Err(Refusal::NotInLayout);
+        }
+        Ok(Site { number })
+    }
+}
+
+impl Site {
+    /// The number, from 0 to 3.
+    pub fn number(self) -> u8
+        ensures { result ≡ self }
+    {
+        self.number
+    }
+}
