@@ -31,4 +31,5 @@ pub record IsLawfulKind (k : Kind) : Type 0 where
   -- a lift is a mark with at least that stamp at that site, and every such mark covers it
   pub lift_means : (site s : ℕ) → site < 4 → s < 2 ^ 63 → k.Means (k.lift site s)
   pub lift_reaches : (site s : ℕ) → site < 4 → s < 2 ^ 63 → s ≤ at (k.lift site s) site
-  pub lift_least : (site s : ℕ) (y : PerSite) → site < 4 → s < 2 ^ 63 → HasStamps y → k.Means y → s ≤ at y site → Covers y (k.lift site s)
+  pub lift_least : (site s : ℕ) (y : PerSite) → site < 4 → s < 2 ^ 63 → HasStamps y → k.Means y → s ≤ at y site
+      → Covers y (k.lift site s)

@@ -13,7 +13,9 @@ and_then (Err why) next = Err why
 
 abbrev pub stamp_from : (ℕ → ℕ → ℕ → Result ℕ Refusal) → ℕ → ℕ → ℕ → Result ℕ Refusal
 stamp_from rule last reading dependency =
-    and_then (checked_stamp last) (λ l. and_then (checked_stamp dependency) (λ d. and_then (checked_reading reading) (λ r. rule l r d)))
+    and_then (checked_stamp last) (λ l.
+    and_then (checked_stamp dependency) (λ d.
+    and_then (checked_reading reading) (λ r. rule l r d)))
 
 -- an answer as one signed number
 abbrev pub signed_number : Result ℕ Refusal → ℤ

@@ -1,7 +1,10 @@
 -- The number of each refusal, and that a refusal changes nothing.
 use Rattle.std.specs.Prelude.{◌≡◌, ℕ, Ok, Err, Result}
 use Rattle.stamps.specs.declared.refusal.Refusal.{Refusal}
-use Rattle.stamps.specs.declared.refusal.Refusal.TheVariants.{NotInLayout, NoSession, Unlawful, ReadingBehind, TableFull, OutboxFull, Early, End, NothingWaits, NoneFree, NotOpen, BadLayout, ShortCommand, UnknownLetter, LayoutMisplaced, ShortBuffer}
+use Rattle.stamps.specs.declared.refusal.Refusal.TheVariants.{NotInLayout, NoSession, Unlawful, ReadingBehind}
+use Rattle.stamps.specs.declared.refusal.Refusal.TheVariants.{TableFull, OutboxFull, Early, End, NothingWaits, NoneFree}
+use Rattle.stamps.specs.declared.refusal.Refusal.TheVariants.{NotOpen, BadLayout, ShortCommand, UnknownLetter}
+use Rattle.stamps.specs.declared.refusal.Refusal.TheVariants.{LayoutMisplaced, ShortBuffer}
 
 abbrev pub number_of : Refusal → ℕ
 number_of NotInLayout = 1
