@@ -16,7 +16,7 @@ pub(crate) struct Counts {
 impl Model for Counts {
     ghost use Rattle.std.specs.Prelude.{◌≡◌, length};
     ghost use Rattle.stamps.specs.Rows.{PerSite, per_site, site_list};
-    ghost use Rattle.stamps.specs.RowLists.{listed-four};
+    ghost use Rattle.stamps.specs.RowLists.{site_list-per_site};
 
     ghost Value = { PerSite };
 
@@ -26,7 +26,7 @@ impl Model for Counts {
 
     ghost inverse = { λ x. record { numbers = site_list x } };
 
-    ghost inverse_ok = { λ c h i. record { numbers = listed-four c.numbers h i } };
+    ghost inverse_ok = { λ c h i. record { numbers = site_list-per_site c.numbers h i } };
 }
 
 impl Counts {

@@ -3,10 +3,10 @@ use Rattle.std.specs.Prelude.{◌≡◌, ℕ, List, [], ◌∷◌, length, refl}
 use Rattle.std.proofs.Common.{arith}
 use Rattle.stamps.specs.Rows.{per_site, site_list}
 
-pub listed-four : (xs : List ℕ) → length xs ≡ 4 → site_list (per_site xs) ≡ xs
-listed-four (a ∷ b ∷ c ∷ d ∷ []) h = refl
-listed-four [] h = absurd (omega arith)
-listed-four (a ∷ []) h = absurd (omega arith)
-listed-four (a ∷ b ∷ []) h = absurd (omega arith)
-listed-four (a ∷ b ∷ c ∷ []) h = absurd (omega arith)
-listed-four (a ∷ b ∷ c ∷ d ∷ e ∷ xs) h = absurd (omega arith)
+pub site_list-per_site : (xs : List ℕ) → length xs ≡ 4 → site_list (per_site xs) ≡ xs
+site_list-per_site (a ∷ b ∷ c ∷ d ∷ []) h = refl
+site_list-per_site [] h = absurd (omega arith)
+site_list-per_site (a ∷ []) h = absurd (omega arith)
+site_list-per_site (a ∷ b ∷ []) h = absurd (omega arith)
+site_list-per_site (a ∷ b ∷ c ∷ []) h = absurd (omega arith)
+site_list-per_site (a ∷ b ∷ c ∷ d ∷ e ∷ xs) h = absurd (omega arith)

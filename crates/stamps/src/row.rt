@@ -18,7 +18,7 @@ pub struct Row {
 impl Model for Row {
     ghost use Rattle.std.specs.Prelude.{◌≡◌, length};
     ghost use Rattle.stamps.specs.Rows.{PerSite, HasStamps, per_site, site_list};
-    ghost use Rattle.stamps.specs.RowLists.{listed-four};
+    ghost use Rattle.stamps.specs.RowLists.{site_list-per_site};
 
     ghost Value = { PerSite };
 
@@ -28,7 +28,7 @@ impl Model for Row {
 
     ghost inverse = { λ x. record { entries = site_list x } };
 
-    ghost inverse_ok = { λ r h i. record { entries = listed-four r.entries h.0 i } };
+    ghost inverse_ok = { λ r h i. record { entries = site_list-per_site r.entries h.0 i } };
 }
 
 /// The row of four plain numbers. `Unlawful` if one of them is no stamp.
