@@ -2,7 +2,7 @@
 #![tactic(auto)]
 
 ghost use Rattle.std.specs.Prelude.{◌≡◌, ℕ, pos, take};
-ghost use Rattle.stamps.specs.Clocks.{raw as raw_rule, hybrid as hybrid_rule};
+ghost use Rattle.stamps.specs.Clocks.{raw_rule, hybrid_rule};
 ghost use Rattle.stamps.specs.Outside.{stamp_from, signed_number};
 ghost use Rattle.script.specs.Laws.{IsListing};
 ghost use Rattle.script.specs.Scripts.{listing_into};

@@ -26,8 +26,8 @@ use Rattle.script.specs.Commands.{code}
 use Rattle.script.specs.CommandCalls.{perform}
 
 abbrev pub clock_rule_of : Clock → Rule
-clock_rule_of Raw = clocks.raw
-clock_rule_of Hybrid = clocks.hybrid
+clock_rule_of Raw = clocks.raw_rule
+clock_rule_of Hybrid = clocks.hybrid_rule
 
 abbrev pub mark_kind_of : Marks → Kind
 mark_kind_of One = one_kind

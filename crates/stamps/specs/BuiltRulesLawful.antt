@@ -5,7 +5,7 @@ use Rattle.stamps.specs.declared.refusal.Refusal.TheVariants.{Early, End}
 use Rattle.std.proofs.lemmas.Bool.{leb-false}
 use Rattle.std.proofs.lemmas.Bool.Decides.{nat_tests}
 use Rattle.stamps.specs.Stamps.{top_stamp, stamp_of, time_of, count_of}
-use Rattle.stamps.specs.Clocks.{IsLawfulRule, IsAllowed, raw, hybrid, new_time, new_count, carry}
+use Rattle.stamps.specs.Clocks.{IsLawfulRule, IsAllowed, raw_rule, hybrid_rule, new_time, new_count, carry}
 
 -- the answer, by what the two tests came to
 raw_allowed : (p q : Bool) (last reading dependency : ℕ) → reading < 2 ^ 47
@@ -16,7 +16,7 @@ raw_allowed false true last reading dependency r a b = inl refl
 raw_allowed false false last reading dependency r a b =
     (omega (arith, leb-false), omega (arith, leb-false), omega arith)
 
-pub raw_lawful : IsLawfulRule raw
+pub raw_lawful : IsLawfulRule raw_rule
 raw_lawful =
     record { allowed = λ last reading dependency _ r _. raw_allowed _ _ last reading dependency r refl refl }
 
@@ -34,6 +34,6 @@ hybrid_allowed false true last reading dependency l r d a b = inr refl
 hybrid_allowed false false last reading dependency l r d a b =
     (grind (arith, nat_tests), grind (arith, nat_tests), grind (arith, nat_tests))
 
-pub hybrid_lawful : IsLawfulRule hybrid
+pub hybrid_lawful : IsLawfulRule hybrid_rule
 hybrid_lawful =
     record { allowed = λ last reading dependency l r d. hybrid_allowed _ _ last reading dependency l r d refl refl }

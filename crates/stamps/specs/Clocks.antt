@@ -15,28 +15,29 @@ pub record IsLawfulRule (answer : ℕ → ℕ → ℕ → Result ℕ Refusal) : 
       → IsAllowed last dependency (answer last reading dependency)
 
 -- raw: the reading's first stamp, if that is above both
-abbrev pub raw : ℕ → ℕ → ℕ → Result ℕ Refusal
-raw last reading dependency =
+abbrev pub raw_rule : ℕ → ℕ → ℕ → Result ℕ Refusal
+raw_rule last reading dependency =
     let stamp = stamp_of reading 0 in
     if nat_le stamp last || nat_le stamp dependency then Err Early else Ok stamp
 
--- hybrid: the greatest of the three times
+-- the time of a hybrid stamp: the greatest of the three times
 abbrev pub new_time : ℕ → ℕ → ℕ → ℕ
 new_time last reading dependency = max (max (time_of last) (time_of dependency)) reading
 
--- the new count, by whether last's time and dependency's time are the new time, from their counts
+-- its count, by whether last's time and dependency's time are the new time, from their counts
 abbrev pub new_count : Bool → Bool → ℕ → ℕ → ℕ
 new_count true true of_last of_dependency = max of_last of_dependency + 1
 new_count true false of_last of_dependency = of_last + 1
 new_count false true of_last of_dependency = of_dependency + 1
 new_count false false of_last of_dependency = 0
 
--- a count that passes 65,535 makes the time one more and the count 0
+-- the stamp of both: a count that passes 65,535 makes the time one more and the count 0
 abbrev pub carry : ℕ → ℕ → ℕ
 carry time count = if nat_lt 65535 count then stamp_of (time + 1) 0 else stamp_of time count
 
-abbrev pub hybrid : ℕ → ℕ → ℕ → Result ℕ Refusal
-hybrid last reading dependency =
+-- hybrid: the stamp of this time and count, which is above both; none is above the top stamp
+abbrev pub hybrid_rule : ℕ → ℕ → ℕ → Result ℕ Refusal
+hybrid_rule last reading dependency =
     let time = new_time last reading dependency in
     let count = new_count (time_of last == time) (time_of dependency == time) (count_of last) (count_of dependency) in
     if last == top_stamp || dependency == top_stamp then Err End else Ok (carry time count)

@@ -32,8 +32,5 @@ pub fn next_stamp<C: ClockRule>(
     ensures value { result ≡ C.ClockRule.answer last reading dependency }
     ensures allowed { IsAllowed last dependency result }
 {
-    match C::stamp(last, reading, dependency) {
-        Ok(stamp) => Ok(IssuedStamp::of(stamp)),
-        Err(why) => Err(why),
-    }
+    Ok(IssuedStamp::of(C::stamp(last, reading, dependency)?))
 }

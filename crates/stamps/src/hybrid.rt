@@ -1,6 +1,6 @@
 //! The hybrid logical clock: the greatest time known, and a count within it.
 ghost use Rattle.std.specs.Prelude.{◌≡◌, ◌+◌, ◌^◌, ◌<◌, ◌≤◌};
-ghost use Rattle.stamps.specs.Clocks.{hybrid as hybrid_rule, carry};
+ghost use Rattle.stamps.specs.Clocks.{hybrid_rule, carry};
 ghost use Rattle.stamps.specs.Stamps.{stamp_of};
 ghost use Rattle.stamps.specs.BuiltRulesLawful.{hybrid_lawful};
 

@@ -1,5 +1,5 @@
 //! The raw rule: the physical clock alone, refused while it is not ahead.
-ghost use Rattle.stamps.specs.Clocks.{raw as raw_rule};
+ghost use Rattle.stamps.specs.Clocks.{raw_rule};
 ghost use Rattle.stamps.specs.BuiltRulesLawful.{raw_lawful};
 
 use crate::clock_rule::ClockRule;

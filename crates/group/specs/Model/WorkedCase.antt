@@ -1,7 +1,7 @@
 -- A worked case: a percentage overtakes its basis on the way to another site, and is not shown before it.
 use Rattle.std.specs.Prelude.{◌≡◌, ℕ, List, [], ◌∷◌, map, reverse, Some, None, Ok, Err, refl}
 use Rattle.stamps.specs.declared.refusal.Refusal.TheVariants.{NothingWaits}
-use Rattle.stamps.specs.Clocks.{hybrid}
+use Rattle.stamps.specs.Clocks.{hybrid_rule}
 use Rattle.stamps.specs.Stamps.{stamp_of}
 use Rattle.stamps.specs.BuiltKinds.{each_kind}
 use Rattle.servers.specs.Percents.{percent_of}
@@ -47,4 +47,4 @@ call_of e = e.call
 -- A group of two sites and two partitions, with the hybrid clock and a stamp for each site, answers these calls so.
 abbrev pub AnswersWorkedCase : Type 0
 AnswersWorkedCase =
-    reverse (run_of hybrid each_kind 2 2 (map call_of worked_events)).events ≡ worked_events
+    reverse (run_of hybrid_rule each_kind 2 2 (map call_of worked_events)).events ≡ worked_events
