@@ -1,4 +1,4 @@
--- Proofs that the two rules meet what every rule owes. They state nothing new; the proof of a law has to stand in specs/.
+-- Proofs that the two rules meet what every rule owes. They state nothing new; a law is proved in specs/.
 use Rattle.std.specs.Prelude.{◌≡◌, ℕ, ◌^◌, ◌<◌, Bool, true, false, if◌then◌else◌, ◌||◌, Ok, Err, ◌==◌, nat_le, refl}
 use Rattle.std.proofs.Common.{inl, inr, arith}
 use Rattle.stamps.specs.declared.refusal.Refusal.TheVariants.{Early, End}
