@@ -1,6 +1,6 @@
 -- How many lines a listing has, from the commands alone.
 use Rattle.std.proofs.Common.{◌≡◌, ℕ, zero, suc, ◌+◌, ◌<◌, ◌≤◌, Bool, true, false, cond, List, [], ◌∷◌, length, Ok, Err, Result, refl, ap, ◌∙◌, arith}
-use Rattle.std.specs.Prelude.{is_ok}
+use Rattle.std.specs.Prelude.{is_ok, IfOk}
 use Rattle.std.proofs.lemmas.Bool.{cond_both}
 use Rattle.stamps.specs.declared.refusal.Refusal.{Refusal}
 use Rattle.stamps.specs.Outside.{and_then}
@@ -14,13 +14,13 @@ use Rattle.script.specs.declared.choice.Clock.{Clock}
 use Rattle.script.specs.declared.choice.Marks.{Marks}
 use Rattle.script.specs.Counting.{goes_on, rest_after, rest_of_read}
 use Rattle.script.specs.Scripts.{ScriptState, new_script, lines_after, lines_from, next_at, counted_line, next_answer, after_read, after_obey}
-use Rattle.script.proofs.Stepping.{new_script_within, length-new_script}
+use Rattle.script.proofs.NextAnswers.{new_script_within, length-new_script}
 use Rattle.script.specs.ScriptGroups.{ScriptGroup, no_group, some_group, clock_of, marks_of, make_group, obey, answer_of_making}
 
 -- whether a group was made
-abbrev pub is_made : ScriptGroup → Bool
-is_made no_group = false
-is_made (some_group clock marks g) = true
+abbrev pub has_group : ScriptGroup → Bool
+has_group no_group = false
+has_group (some_group clock marks g) = true
 
 -- how many lines follow, at most n of them
 abbrev pub count_from : ℕ → Bool → List ℕ → ℕ
@@ -30,64 +30,62 @@ count_from (suc n) m (b ∷ bytes) = suc (count_from n true (rest_after m (b ∷
 
 -- what goes on after a command: nothing is left, or a group was made
 abbrev pub GoesOnMade : ScriptState ScriptGroup → Type 0
-GoesOnMade s = (n : ℕ) → count_from n (is_made s.group) s.rest ≡ count_from n true s.rest
+GoesOnMade s = (n : ℕ) → count_from n (has_group s.group) s.rest ≡ count_from n true s.rest
 
 none_left : (m : Bool) (n : ℕ) → count_from n m [] ≡ count_from n true []
 none_left m zero = refl
 none_left m (suc n) = refl
 
--- what a group is made of, if one is made
-abbrev MadeOr : Result ScriptGroup Refusal → Type 0
-MadeOr (Ok s) = is_made s ≡ true
-MadeOr (Err why) = Unit {0}
+abbrev HasGroup : ScriptGroup → Type 0
+HasGroup group = has_group group ≡ true
 
-with_made : {A : Type 0} (r : Result A Refusal) (f : A → Result ScriptGroup Refusal) → ((x : A) → MadeOr (f x)) → MadeOr (and_then r f)
-with_made (Ok x) f h = h x
-with_made (Err why) f h = tt
+and_then_has_group : {A : Type 0} (r : Result A Refusal) (f : A → Result ScriptGroup Refusal) → ((x : A) → IfOk (f x) HasGroup) → IfOk (and_then r f) HasGroup
+and_then_has_group (Ok x) f h = h x
+and_then_has_group (Err why) f h = tt
 
-made_or : (command : Command) → MadeOr (make_group command)
-made_or (Layout sites partitions clock marks) =
-    with_made (checked_layout (record { sites = sites; partitions = partitions })) _ (λ layout. with_made (clock_of clock) _ (λ rule. with_made (marks_of marks) _ (λ kind. refl)))
-made_or command = tt
+make_group_has_group : (command : Command) → IfOk (make_group command) HasGroup
+make_group_has_group (Layout sites partitions clock marks) =
+    and_then_has_group (checked_layout (record { sites = sites; partitions = partitions })) _ (λ layout. and_then_has_group (clock_of clock) _ (λ rule. and_then_has_group (marks_of marks) _ (λ kind. refl)))
+make_group_has_group command = tt
 
 -- what a step leaves is what the commands alone leave
 pub record Follows (left : List ℕ) (after : ScriptState ScriptGroup) : Type 0 where
   pub rest : after.rest ≡ left
   pub goes_on_lem : GoesOnMade after
 
-first_follows : (s : ScriptState ScriptGroup) (rest : List ℕ) (m : Result ScriptGroup Refusal) → MadeOr m → Follows (cond (is_ok m) rest []) (after_obey s rest (answer_of_making m)).1
-first_follows s rest (Err why) h = record { rest = refl; goes_on_lem = none_left false }
-first_follows s rest (Ok no_group) h = absurd cc
-first_follows s rest (Ok (some_group clock marks g)) h = record { rest = refl; goes_on_lem = λ n. refl }
+no_group_follows : (s : ScriptState ScriptGroup) (rest : List ℕ) (m : Result ScriptGroup Refusal) → IfOk m HasGroup → Follows (cond (is_ok m) rest []) (after_obey s rest (answer_of_making m)).1
+no_group_follows s rest (Err why) h = record { rest = refl; goes_on_lem = none_left false }
+no_group_follows s rest (Ok no_group) h = absurd cc
+no_group_follows s rest (Ok (some_group clock marks g)) h = record { rest = refl; goes_on_lem = λ n. refl }
 
-made_follows : (s : ScriptState ScriptGroup) (rest : List ℕ) (clock : Clock) (marks : Marks) (g : GroupState) (command : Command)
+some_group_follows : (s : ScriptState ScriptGroup) (rest : List ℕ) (clock : Clock) (marks : Marks) (g : GroupState) (command : Command)
     → Follows (cond (goes_on true command) rest []) (after_obey s rest (obey (some_group clock marks g) command)).1
-made_follows s rest clock marks g (Layout sites partitions c m) = record { rest = refl; goes_on_lem = λ n. refl }
-made_follows s rest clock marks g command = record { rest = refl; goes_on_lem = λ n. refl }
+some_group_follows s rest clock marks g (Layout sites partitions c m) = record { rest = refl; goes_on_lem = λ n. refl }
+some_group_follows s rest clock marks g command = record { rest = refl; goes_on_lem = λ n. refl }
 
-pub step_follows : (s : ScriptState ScriptGroup) → Follows (rest_after (is_made s.group) s.rest) (next_answer obey s).1
+pub step_follows : (s : ScriptState ScriptGroup) → Follows (rest_after (has_group s.group) s.rest) (next_answer obey s).1
 step_follows s = by_read (read_command s.rest)
   where
-    obeys : (st : ScriptGroup) (command : Command) (rest : List ℕ) → Follows (cond (goes_on (is_made st) command) rest []) (after_obey s rest (obey st command)).1
-    obeys no_group command rest = first_follows s rest (make_group command) (made_or command)
-    obeys (some_group clock marks g) command rest = made_follows s rest clock marks g command
+    obeys : (st : ScriptGroup) (command : Command) (rest : List ℕ) → Follows (cond (goes_on (has_group st) command) rest []) (after_obey s rest (obey st command)).1
+    obeys no_group command rest = no_group_follows s rest (make_group command) (make_group_has_group command)
+    obeys (some_group clock marks g) command rest = some_group_follows s rest clock marks g command
 
-    by_read : (r : Result (Command × List ℕ) Refusal) → Follows (rest_of_read (is_made s.group) r) (after_read obey s r).1
-    by_read (Err why) = record { rest = refl; goes_on_lem = λ n. none_left (is_made s.group) n }
+    by_read : (r : Result (Command × List ℕ) Refusal) → Follows (rest_of_read (has_group s.group) r) (after_read obey s r).1
+    by_read (Err why) = record { rest = refl; goes_on_lem = λ n. none_left (has_group s.group) n }
     by_read (Ok (command, rest)) = obeys s.group command rest
 
 -- the listing has as many lines as the commands alone say
-pub lines_count : (n : ℕ) (s : ScriptState ScriptGroup) → length (lines_from n s) ≡ count_from n (is_made s.group) s.rest
+pub lines_count : (n : ℕ) (s : ScriptState ScriptGroup) → length (lines_from n s) ≡ count_from n (has_group s.group) s.rest
 lines_count zero s = refl
 lines_count (suc n) s = by_rest s.rest refl (lines_count n)
   where
-    by_rest : (bytes : List ℕ) → s.rest ≡ bytes → ((after : ScriptState ScriptGroup) → length (lines_from n after) ≡ count_from n (is_made after.group) after.rest)
-        → length (lines_after (lines_from n) (next_at obey s bytes)) ≡ count_from (suc n) (is_made s.group) bytes
+    by_rest : (bytes : List ℕ) → s.rest ≡ bytes → ((after : ScriptState ScriptGroup) → length (lines_from n after) ≡ count_from n (has_group after.group) after.rest)
+        → length (lines_after (lines_from n) (next_at obey s bytes)) ≡ count_from (suc n) (has_group s.group) bytes
     by_rest [] e more = refl
     by_rest (b ∷ bytes) e more =
         let after = (counted_line b (next_answer obey s)).1 in
         let f = step_follows s in
-        ap (λ k. suc k) (more after ∙ f.goes_on_lem n ∙ ap (count_from n true) (f.rest ∙ ap (rest_after (is_made s.group)) e))
+        ap (λ k. suc k) (more after ∙ f.goes_on_lem n ∙ ap (count_from n true) (f.rest ∙ ap (rest_after (has_group s.group)) e))
 
 -- what is left after a command is shorter
 pub rest_shorter : (m : Bool) (bytes : List ℕ) → 0 < length bytes → length (rest_after m bytes) < length bytes

@@ -1,12 +1,12 @@
-pub mod Formed
+pub mod Forms
 pub mod Shorter
 pub mod Numbers
-pub mod Written
+pub mod BytesOf
 pub mod Counts
 pub mod FirstBytes
-pub mod Answered
+pub mod AnswerLines
 pub mod Lengths
 pub mod LinesLeft
 pub mod ListingSteps
-pub mod Stepping
-pub mod Viewing
+pub mod NextAnswers
+pub mod FourCalls

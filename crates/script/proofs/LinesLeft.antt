@@ -6,8 +6,8 @@ use Rattle.std.proofs.lemmas.List.{append_assoc, append-nil, drop_all, drop_at, 
 use Rattle.stamps.specs.declared.refusal.Refusal.{Refusal}
 use Rattle.script.specs.Scripts.{ScriptState, new_script, lines_of, lines_after, lines_from, next, next_at, counted_line, line_into, next_answer}
 use Rattle.script.specs.ScriptGroups.{ScriptGroup, obey}
-use Rattle.script.proofs.Counts.{rest_shorter, step_follows, is_made}
-use Rattle.script.proofs.Stepping.{new_script_within}
+use Rattle.script.proofs.Counts.{rest_shorter, step_follows, has_group}
+use Rattle.script.proofs.NextAnswers.{new_script_within}
 
 -- all lines that follow
 abbrev pub lines_left : ScriptState ScriptGroup → List (List ℕ)
@@ -30,7 +30,7 @@ next_shorter s after line e = go s.rest refl e
         let f = step_follows s in
         let same : counted_line b (next_answer obey s) ≡ (line, after) = cc in
         let rest : (next_answer obey s).1.rest ≡ after.rest = ap (λ (o : List ℕ × ScriptState ScriptGroup). o.1.rest) same in
-        let less = rest_shorter (is_made s.group) s.rest (rw is (omega arith)) in
+        let less = rest_shorter (has_group s.group) s.rest (rw is (omega arith)) in
         omega (arith, ap length rest, ap length f.rest)
 
 -- any number that is not below the number of bytes gives the same lines

@@ -8,7 +8,7 @@ use Rattle.script.specs.declared.command.Command.{Command}
 use Rattle.script.specs.declared.command.Command.TheVariants.{Layout}
 use Rattle.script.specs.Commands.{read_command}
 use Rattle.script.specs.Writing.{OperandsFit, bytes_of}
-use Rattle.script.proofs.Written.{bytes_of-read}
+use Rattle.script.proofs.BytesOf.{bytes_of-read}
 use Rattle.script.specs.declared.choice.Clock.{Clock}
 use Rattle.script.specs.declared.choice.Marks.{Marks}
 use Rattle.script.specs.declared.answer.Answer.{Answer}
@@ -18,7 +18,7 @@ use Rattle.script.specs.Listings.{GoesOnAsScript, after_layout, as_script, line_
 use Rattle.script.specs.Scripts.{Obey, ScriptState, new_script, next, next_at, counted_line, next_answer, after_read, after_obey}
 use Rattle.script.specs.CommandCalls.{perform}
 use Rattle.script.specs.ScriptGroups.{ScriptGroup, clock_rule_of, as_some_group, some_group, make_group, mark_kind_of, obey, answer_of_making}
-use Rattle.script.proofs.Stepping.{next_is, read_obeyed}
+use Rattle.script.proofs.NextAnswers.{next_is, read_obeyed}
 
 -- after its layout a script stands where the listing over the group that was made begins
 begins : (sites partitions clock_letter marks_letter : ℕ) (bytes : List ℕ) (clock : Clock) (marks : Marks) (g : GroupState) →

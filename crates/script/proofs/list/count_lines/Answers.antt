@@ -3,7 +3,7 @@ use Rattle.std.proofs.Common.{◌+◌, false, length, sym, ap, arith}
 use Rattle.std.proofs.lemmas.Bool.{eqb-true, lt-ltb}
 use Rattle.script.specs.Scripts.{new_script}
 use Rattle.script.proofs.Counts.{count_from, count_enough, count_few, count_none, count_turn, lines_count}
-use Rattle.script.proofs.Stepping.{new_script_within}
+use Rattle.script.proofs.NextAnswers.{new_script_within}
 use Rattle.script.proofs.list.count_lines.Goals as goal
 
 pub overflow_add-count : goal.overflow_add-count

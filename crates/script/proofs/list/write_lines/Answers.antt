@@ -7,7 +7,7 @@ use lib.Seq.{drop-drop}
 use Rattle.script.specs.Laws.{IsShort, IsListing}
 use Rattle.script.specs.Scripts.{lines_of, listing, script_state}
 use Rattle.script.specs.ScriptGroups.{script_group}
-use Rattle.script.proofs.Answered.{listing_law}
+use Rattle.script.proofs.AnswerLines.{listing_law}
 use Rattle.script.proofs.LinesLeft.{line_came, lines_new, lines_none, lines_some, lines_turn, lines_left, next_shorter, put_drop, put_take}
 use Rattle.script.proofs.list.write_lines.Goals as goal
 

@@ -1,5 +1,5 @@
 use Rattle.group.specs.Groups.{view}
-use Rattle.script.proofs.Viewing.{four_calls}
+use Rattle.script.proofs.FourCalls.{four_calls}
 use Rattle.script.proofs.perform.view_both.Goals as goal
 
 pub returns : goal.returns

@@ -1,7 +1,7 @@
 use Rattle.std.proofs.Common.{◌≡◌, arith}
 use Rattle.std.proofs.lemmas.Grind.{common_steps}
 use Rattle.script.specs.Commands.{read_command, command_and_rest}
-use Rattle.script.proofs.Written.{reader_law}
+use Rattle.script.proofs.BytesOf.{reader_law}
 use Rattle.script.proofs.reader.read.Goals as goal
 
 pub returns-clause-law : goal.returns-clause-law

@@ -1,7 +1,7 @@
 use Rattle.std.proofs.Common.{ap, ◌∙◌, arith}
 use Rattle.script.specs.declared.answer.Answer.{Answer}
 use Rattle.script.specs.Scripts.{ScriptState, script_state}
-use Rattle.script.proofs.Stepping.{next_answer_lines}
+use Rattle.script.proofs.NextAnswers.{next_answer_lines}
 use Rattle.script.proofs.script.ScriptOver.write_next.Goals as goal
 
 pub invariant_of-self : goal.invariant_of-self

@@ -12,7 +12,7 @@ use Rattle.script.specs.Commands.{Form, form_of, read_command, read_operands}
 use Rattle.script.specs.Writing.{OperandsFit, bytes_of}
 use Rattle.script.proofs.Numbers.{BytesAt}
 use Rattle.script.proofs.Shorter.{read_shorter}
-use Rattle.script.proofs.Written.{read_command-bytes, bytes_of-read}
+use Rattle.script.proofs.BytesOf.{read_command-bytes, bytes_of-read}
 use Rattle.script.specs.declared.answer.Answer.{Answer}
 use Rattle.script.specs.declared.answer.Answer.TheVariants.{Refused}
 use Rattle.script.specs.Laws.{IsShort, IsScript, IsListing, answers, answers_from, letter_of, lines_for, answer_lines, rest_answers, reading_refusal}
@@ -20,7 +20,7 @@ use Rattle.script.specs.Lines.{line_of}
 use Rattle.script.specs.Scripts.{ScriptState, new_script, end_with, lines_of, listing, counted_line, script_of, next_answer, after_read, after_obey}
 use Rattle.script.specs.ScriptGroups.{ScriptGroup, obey}
 use Rattle.script.proofs.LinesLeft.{lines_left, lines_new, lines_none, lines_turn}
-use Rattle.script.proofs.Stepping.{next_is, read_obeyed}
+use Rattle.script.proofs.NextAnswers.{next_is, read_obeyed}
 
 -- a command is written in at least one byte
 length-bytes_of : (c : Command) → 0 < length (bytes_of c)

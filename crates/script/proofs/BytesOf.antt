@@ -10,7 +10,7 @@ use Rattle.script.specs.declared.command.Command.TheVariants.{Layout, OpenSessio
 use Rattle.script.specs.Commands.{Form, u8_at, deliver_form, form_of, read_form, get_form, layout_form, open_session_form, put_form, read_command, read_operands, server_form, tell_form, view_form}
 use Rattle.script.specs.Writing.{IsByte, OperandsFit, bytes_of}
 use Rattle.script.specs.ReaderLaws.{AnswersFirstCommand}
-use Rattle.script.proofs.Formed.{read_form_ok}
+use Rattle.script.proofs.Forms.{read_form_ok}
 use Rattle.script.proofs.Numbers.{AreBytes, BytesAt, all_bytes, four_read, four_written, items, items_bytes, six_read, six_written, two_read, two_written}
 
 -- ---- what was written is read
