@@ -4,7 +4,7 @@ use stamps::refusal::Refusal;
 use stamps::stamp::Stamp;
 
 /// What a command answers. A line prints it after the command's number and letter.
-#[derive(Clone, Copy)]
+#[derive(Clone, Copy, Debug, PartialEq, Eq)]
 pub enum Answer {
     /// It was done, and there is nothing to say of it.
     Done,

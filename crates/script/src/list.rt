@@ -13,7 +13,11 @@ use crate::script_bytes::script_of;
 use stamps::refusal::Refusal;
 use std::alloc::{AllocError, Global};
 
-/// The lines of a script, in order. The only error is that there is no memory for them.
+/// The lines of a script, in order.
+///
+/// # Errors
+///
+/// There is no memory for them.
 pub fn list(heap: Global, bytes: &[u8]) -> Result<Vec<u8>, AllocError>
     ensures value { IfOk result (λ v. v.items ≡ listing bytes.now) }
     ensures law { IfOk result (λ v. IsListing bytes.now v.items) }
@@ -24,8 +28,11 @@ pub fn list(heap: Global, bytes: &[u8]) -> Result<Vec<u8>, AllocError>
     Ok(out)
 }
 
-/// Writes the lines of a script to the start of the buffer, and answers their length. Refused as `ShortBuffer`, with
-/// nothing changed, if the buffer has not 96 bytes for each of them.
+/// Writes the lines of a script to the start of the buffer, and answers their length.
+///
+/// # Errors
+///
+/// `ShortBuffer` if the buffer has not 96 bytes for each line. It is left as it was.
 pub fn list_into(bytes: &[u8], buffer: &mut [u8]) -> Result<usize, Refusal>
     ensures value { (result, buffer.new) ≡ listing_into bytes.now buffer.old }
     ensures law { IfOk result (λ len. IsListing bytes.now (take len buffer.new)) }

@@ -25,7 +25,11 @@ pub trait Obeys {
     // What a command answers, or the refusal that ends the listing, and the state after it.
     ghost obey_gives: { State → Command → Result Answer Refusal × State };
 
-    /// Performs a command: its answer, or the refusal that ends the listing.
+    /// Performs a command, and gives its answer.
+    ///
+    /// # Errors
+    ///
+    /// The refusal that ends the listing: of a first command that makes no group, or of a later layout.
     fn obey(&mut self, command: Command) -> Result<Answer, Refusal>
         ensures { (result, state self.new) ≡ obey_gives (state self.old) command };
 }

@@ -8,8 +8,12 @@ ghost use Rattle.script.specs.ReaderLaws.{AnswersFirstCommand};
 use crate::command::Command;
 use stamps::refusal::Refusal;
 
-/// The first command of a script, and what is left after it. Refused as `ShortCommand` if the bytes end before its last
-/// operand, and as `UnknownLetter` if no command has its letter.
+/// The first command of a script, and what is left after it.
+///
+/// # Errors
+///
+/// `UnknownLetter` if no command has the letter, and `ShortCommand` if the bytes end before its last
+/// operand, or there are none.
 pub fn read(script: &[u8]) -> Result<(Command, &[u8]), Refusal>
     ensures value { command_and_rest result ≡ read_command script.now }
     ensures law { AnswersFirstCommand script.now (command_and_rest result) }

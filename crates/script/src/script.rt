@@ -44,7 +44,11 @@ impl<'a, G: Obeys> ScriptOver<'a, G> {
     ghost use Rattle.script.specs.Scripts.{end_with, line_into, next, next_answer, next_line, script_state};
 
     /// Performs the next command and writes its line to the start of the buffer: the line's length, or none if the
-    /// script has ended. Refused as `ShortBuffer`, with nothing changed, if the buffer has not 96 bytes.
+    /// script has ended.
+    ///
+    /// # Errors
+    ///
+    /// `ShortBuffer` if the buffer has not 96 bytes. Nothing is performed, and the buffer is left as it was.
     pub fn next_line(&mut self, buffer: &mut [u8]) -> Result<Option<usize>, Refusal>
         ensures value { (result, script_state G.state self.new, buffer.new) ≡
             next_line G.obey_gives (script_state G.state self.old) buffer.old }
