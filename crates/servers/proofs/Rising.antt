@@ -15,6 +15,8 @@ use Rattle.servers.specs.Outboxes.{is_outbox_full}
 use Rattle.servers.specs.Servers.{Rule, ServerState, server_heartbeat_with, first_entry, first_received, server_keep, last_of, server_put_with, server_receive, server_take_other, server_tell_checked}
 use Rattle.servers.specs.Tables.{is_table_full}
 use Rattle.servers.specs.declared.value.Value.{Value}
+use Rattle.servers.specs.declared.version.Version.{Version}
+use Rattle.servers.specs.Versions.{stamp_answered}
 use Rattle.servers.proofs.RowEntries.{at_other, at_same, by_site}
 
 -- what all calls keep, of a server of a site
@@ -80,15 +82,18 @@ module _ (rule : Rule) (lawful : IsLawfulRule rule) (k : Kind) (site : ℕ) (few
       cond_both (is_outbox_full l.server.site l.server.sites l.server.waiting) _ _ (SoundStamped l) (λ _. h)
       (λ _. beat_at l (rule (last_of l.server) l.server.reading 0) (answer_allowed l 0 h (omega arith)) h)
 
+  abbrev SoundPut : ServerRun → Result Version Refusal × ServerState → Type 0
+  SoundPut l r = SoundStamped l (stamp_answered r.0, r.1)
+
   put_at : (l : ServerRun) (key : ℕ) (value : Value) (depends knows : PerSite) (r : Result ℕ Refusal) → IsAllowed (newest l.made) (greatest depends) r → Sound site l
-      → SoundStamped l (server_put_with k l.server key value depends knows r)
+      → SoundPut l (server_put_with k l.server key value depends knows r)
   put_at l key value depends knows (Ok stamp) a h = stamp_sound l stamp (server_put_with k l.server key value depends knows (Ok stamp)).1 a.0 a.2 refl refl refl h
   put_at l key value depends knows (Err why) a h = h
 
   put_sound : (l : ServerRun) (key : ℕ) (value : Value) (depends knows : PerSite) → HasStamps depends → Sound site l → Sound site (run_after rule k l (put key value depends knows))
   put_sound l key value depends knows stamps h =
-      cond_both (is_table_full l.server.held) _ _ (SoundStamped l) (λ _. h)
-      (λ _. cond_both (is_outbox_full l.server.site l.server.sites l.server.waiting) _ _ (SoundStamped l) (λ _. h)
+      cond_both (is_table_full l.server.held) _ _ (SoundPut l) (λ _. h)
+      (λ _. cond_both (is_outbox_full l.server.site l.server.sites l.server.waiting) _ _ (SoundPut l) (λ _. h)
       (λ _. put_at l key value depends knows (rule (last_of l.server) l.server.reading (greatest depends)) (answer_allowed l (greatest depends) h (omega arith)) h))
 
   -- an entry of another site leaves the server's own
@@ -124,11 +129,11 @@ module _ (rule : Rule) (lawful : IsLawfulRule rule) (k : Kind) (site : ℕ) (few
       first : (i : ℕ) → i < 4 → i < sites → first_entry sites i ≡ 0
       first i _ lt = cond-true (ltb i sites) 0 top_stamp (lt-ltb i sites lt)
 
-  life_sound : (sites : ℕ) → site < sites → (calls : List ServerCall) → ((c : ServerCall) → IsIn c calls → HasStampMarks c) → Sound site (server_run rule k site sites calls)
-  life_sound sites within [] ok = record { here = refl; reading = omega arith; rise = tt; last = first_none sites within }
-  life_sound sites within (c ∷ cs) ok = call_sound (server_run rule k site sites cs) c (ok c (inl refl)) (life_sound sites within cs (λ d i. ok d (inr i)))
+  run_sound : (sites : ℕ) → site < sites → (calls : List ServerCall) → ((c : ServerCall) → IsIn c calls → HasStampMarks c) → Sound site (server_run rule k site sites calls)
+  run_sound sites within [] ok = record { here = refl; reading = omega arith; rise = tt; last = first_none sites within }
+  run_sound sites within (c ∷ cs) ok = call_sound (server_run rule k site sites cs) c (ok c (inl refl)) (run_sound sites within cs (λ d i. ok d (inr i)))
 
-  pub rising_law : (sites : ℕ) → StampsRise rule k site sites
-  rising_law sites calls ok within =
-      let h = life_sound sites within calls ok in
+  pub rising_law : (sites : ℕ) → site < sites → StampsRise rule k site sites
+  rising_law sites within calls ok =
+      let h = run_sound sites within calls ok in
       (h.rise, ap (at (server_run rule k site sites calls).server.marks.received) h.here ∙ h.last)

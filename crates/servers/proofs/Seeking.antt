@@ -1,10 +1,11 @@
 -- The search for the latest version, by its place.
-use Rattle.std.proofs.Common.{◌≡◌, ℕ, ◌+◌, ◌<◌, ◌≤◌, Bool, List, length, get_or, drop, Some, None, Option, sym, ap, ◌∙◌}
-use Rattle.std.proofs.lemmas.List.{drop_all, drop_more, get_or_default}
+use Rattle.std.proofs.Common.{◌≡◌, ℕ, ◌+◌, ◌<◌, ◌≤◌, Bool, List, length, get_or, drop, Some, None, Option, IfSome, refl, ap, ◌∙◌}
+use Rattle.std.proofs.lemmas.List.{drop_all, drop_more}
 use Rattle.stamps.specs.Rows.{same}
 use Rattle.servers.specs.declared.value.Value.TheVariants.{Gone}
 use Rattle.servers.specs.declared.version.Version.{Version}
-use Rattle.servers.specs.Tables.{better_of, latest, latest_from}
+use Rattle.std.proofs.lemmas.Option.{slice_get-get_or}
+use Rattle.servers.specs.Tables.{better_of, latest, latest_from, version_at}
 
 -- what stands at the place that was found so far; d is what a read past the end would give
 abbrev pub standing : Version → List Version → Option ℕ → Option Version
@@ -34,5 +35,11 @@ pub seek_all : (test : Version → Bool) (key : ℕ) (d : Version) (vs : List Ve
 seek_all test key d vs i found le inv = rw (drop_all i vs le) at inv
 
 -- the version at a place is what stands there
-pub stands : (xs : List Version) (i : ℕ) (x : Version) → x ≡ get_or xs i x → i < length xs → Some x ≡ standing nothing xs (Some i)
-stands xs i x is lt = ap Some (is ∙ get_or_default xs i x nothing lt)
+pub stands : (d : Version) (xs : List Version) (found : Option ℕ) → within found (length xs) → version_at xs found ≡ standing d xs found
+stands d xs None w = refl
+stands d xs (Some i) lt = slice_get-get_or xs i d lt
+
+-- a place that was found is within the versions
+pub is_within : (found : Option ℕ) (n : ℕ) → within found n → IfSome found (λ i. i < n)
+is_within None n w = w
+is_within (Some i) n w = w

@@ -8,6 +8,7 @@ use Rattle.servers.specs.Others.{is_other}
 use Rattle.servers.specs.Outboxes.{Queues, first, issue_entry, empty_queues, is_outbox_full, take_entry}
 use Rattle.servers.specs.Servers.{Rule, ServerState, server_heartbeat, new_server, server_hand_over, last_of, server_put, server_raise, server_report, server_take, server_tidy, server_tell}
 use Rattle.servers.specs.Tables.{is_covered}
+use Rattle.servers.specs.Versions.{stamp_answered}
 use Rattle.servers.specs.declared.value.Value.{Value}
 use Rattle.servers.specs.declared.version.Version.{Version}
 
@@ -127,7 +128,7 @@ run_with_stamp l (Err why) after = run_without_stamp l after
 abbrev pub run_after : Rule → Kind → ServerRun → ServerCall → ServerRun
 run_after rule k l (tell time) = run_without_stamp l (server_tell l.server time).1
 run_after rule k l beat = let r = server_heartbeat rule l.server in run_with_stamp l r.0 r.1
-run_after rule k l (put key value depends knows) = let r = server_put rule k l.server key value depends knows in run_with_stamp l r.0 r.1
+run_after rule k l (put key value depends knows) = let r = server_put rule k l.server key value depends knows in run_with_stamp l (stamp_answered r.0) r.1
 run_after rule k l (take_from from e) = run_without_stamp l (server_take l.server from e).1
 run_after rule k l (hand_over site) = run_without_stamp l (server_hand_over l.server site)
 run_after rule k l report = run_without_stamp l (server_report k l.server)
@@ -152,5 +153,5 @@ IsRising (s ∷ ss) = (newest ss < s) × (s < 2 ^ 63) × IsRising ss
 -- After any calls, the stamps that a server of the layout has made rise, and the newest of them is its last stamp.
 abbrev pub StampsRise : Rule → Kind → ℕ → ℕ → Type 0
 StampsRise rule k site sites =
-    (calls : List ServerCall) → ((c : ServerCall) → IsIn c calls → HasStampMarks c) → site < sites
+    (calls : List ServerCall) → ((c : ServerCall) → IsIn c calls → HasStampMarks c)
     → IsRising (server_run rule k site sites calls).made × (last_of (server_run rule k site sites calls).server ≡ newest (server_run rule k site sites calls).made)

@@ -122,16 +122,16 @@ put_version s key value depends stamp = record { key = key; value = value; stamp
 abbrev pub server_keep : ServerState → Version → ServerState
 server_keep s v = record s { held = s.held ++ v ∷ [] }
 
--- with a stamp, the version is kept and issued, and the stable mark is raised by what the session knows
-abbrev pub server_put_with : Kind → ServerState → ℕ → Value → PerSite → PerSite → Result ℕ Refusal → Result ℕ Refusal × ServerState
+-- with a stamp, the version is kept, issued and answered, and the stable mark is raised by what the session knows
+abbrev pub server_put_with : Kind → ServerState → ℕ → Value → PerSite → PerSite → Result ℕ Refusal → Result Version Refusal × ServerState
 server_put_with k s key value depends knows (Err why) = (Err why, s)
 server_put_with k s key value depends knows (Ok stamp) =
     let v = put_version s key value depends stamp in
-    (Ok stamp, server_raise k (server_issue (server_keep s v) (Update v)) knows)
+    (Ok v, server_raise k (server_issue (server_keep s v) (Update v)) knows)
 
 -- a full table is refused before a full outbox, and that before the rule is asked; the dependency is the greatest
 -- entry of what the session depends on
-abbrev pub server_put : Rule → Kind → ServerState → ℕ → Value → PerSite → PerSite → Result ℕ Refusal × ServerState
+abbrev pub server_put : Rule → Kind → ServerState → ℕ → Value → PerSite → PerSite → Result Version Refusal × ServerState
 server_put rule k s key value depends knows =
     if is_table_full s.held then (Err TableFull, s) else if is_outbox_full s.site s.sites s.waiting then (Err OutboxFull, s) else server_put_with k s key value depends knows (rule (last_of s) s.reading (greatest depends))
 

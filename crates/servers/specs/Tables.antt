@@ -1,5 +1,5 @@
 -- Tables of versions: the latest that is shown, and tidying.
-use Rattle.std.specs.Prelude.{ℕ, ◌-◌, Bool, if◌then◌else◌, not, ◌&&◌, ◌||◌, List, [], ◌∷◌, length, Some, None, Option, ◌==◌, nat_le, filter}
+use Rattle.std.specs.Prelude.{ℕ, ◌-◌, Bool, if◌then◌else◌, not, ◌&&◌, ◌||◌, List, [], ◌∷◌, length, Some, None, Option, ◌==◌, nat_le, filter, slice_get}
 use Rattle.std.specs.List.{list_any}
 use Rattle.stamps.specs.Rows.{PerSite, covers}
 use Rattle.stamps.specs.Kinds.{Kind}
@@ -10,6 +10,11 @@ use Rattle.servers.specs.declared.version.Version.{Version}
 -- the versions of a table, in order of arrival
 abbrev pub versions_of : VersionTable → List Version
 versions_of t = t.versions.items
+
+-- the version that stands at a place, if one was found
+abbrev pub version_at : List Version → Option ℕ → Option Version
+version_at vs None = None
+version_at vs (Some index) = slice_get vs index
 
 -- the mark of this row covers the version
 abbrev pub is_covered : Kind → PerSite → Version → Bool

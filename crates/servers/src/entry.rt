@@ -3,7 +3,7 @@ ghost use Rattle.std.specs.Prelude.{◌≡◌};
 ghost use Rattle.servers.specs.Entries.{entry_stamp};
 
 use crate::version::Version;
-use stamps::stamp::Stamp;
+use stamps::issued_stamp::IssuedStamp;
 
 /// An entry of an outbox.
 #[derive(Clone, Copy)]
@@ -11,7 +11,7 @@ pub enum Entry {
     /// A version that was put.
     Update(Version),
     /// The server has reached this stamp: what it makes from here on has a higher one.
-    Heartbeat(Stamp),
+    Heartbeat(IssuedStamp),
 }
 
 /// What stands in an unused place of an outbox.
@@ -22,7 +22,7 @@ impl Default for Entry {
 }
 
 impl Entry {
-    pub(crate) fn stamp(&self) -> Stamp
+    pub(crate) fn stamp(&self) -> IssuedStamp
         ensures { result ≡ entry_stamp self.now }
     {
         match self {

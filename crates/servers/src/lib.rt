@@ -4,10 +4,9 @@
 mod counts;
 pub mod entry;
 mod outbox;
-mod peers;
+pub mod peers;
 pub mod percent;
 pub mod server;
-pub mod site_count;
 mod table;
 pub mod value;
 pub mod version;

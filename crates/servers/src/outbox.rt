@@ -2,6 +2,7 @@
 ghost use Rattle.std.specs.Prelude.{◌≡◌, ◌+◌, ◌-◌, ◌≤◌, false, length, drop};
 ghost use Rattle.stamps.specs.Rows.{greatest};
 ghost use Rattle.servers.specs.Lefts.{IsOthersOnly};
+ghost use Rattle.servers.specs.PeerRecords.{IsInLayout};
 
 use crate::counts::Counts;
 use crate::entry::Entry;
@@ -19,7 +20,7 @@ pub(crate) struct Outbox {
     peers: Peers,
     entries: ArrayVec<Entry, MOST_ENTRIES>,
     left: Counts,
-    ghost sites: { (2 ≤ peers.sites) × (peers.sites ≤ 4) },
+    ghost layout: { IsInLayout peers.own peers.sites },
     ghost others: { IsOthersOnly peers.own peers.sites left },
     ghost needed: { greatest left ≡ length entries.items },
 }
@@ -45,7 +46,7 @@ impl Outbox {
     pub(crate) fn own(&self) -> Site
         ensures { result ≡ self.now.peers.own }
     {
-        self.peers.own
+        self.peers.own()
     }
 
     // Whether it is another site of the layout.

@@ -1,6 +1,6 @@
 //! The versions that a server holds, in order of arrival.
-ghost use Rattle.std.specs.Prelude.{◌≡◌, ◌+◌, ◌≤◌, false, [], ◌∷◌, ◌++◌, length};
-ghost use Rattle.servers.specs.Tables.{latest as latest_of, is_table_full, table_tidy, versions_of};
+ghost use Rattle.std.specs.Prelude.{◌≡◌, ◌+◌, ◌<◌, ◌≤◌, false, [], ◌∷◌, ◌++◌, length, IfSome};
+ghost use Rattle.servers.specs.Tables.{latest as latest_of, is_table_full, table_tidy, version_at, versions_of};
 ghost use Rattle.servers.specs.Laws.{IsLatest, IsTidied};
 
 use crate::version::Version;
@@ -58,10 +58,18 @@ impl VersionTable {
         before.len() - self.versions.len()
     }
 
-    // The latest version of a key that passes a test. The search keeps its place, and copies one version at the end.
-    pub(crate) fn latest<T: VersionTest>(&self, key: u16, test: &T) -> Option<Version>
-        ensures value { result ≡ latest_of (T.VersionTest.passes test.now) key (versions_of self.now) }
-        ensures law { IsLatest (T.VersionTest.passes test.now) key (versions_of self.now) result }
+    // The versions, in order of arrival.
+    pub(crate) fn versions(&self) -> &[Version]
+        ensures { result.now ≡ versions_of self.now }
+    {
+        self.versions.as_slice()
+    }
+
+    // Where the latest version of a key stands that passes a test.
+    pub(crate) fn latest<T: VersionTest>(&self, key: u16, test: &T) -> Option<usize>
+        ensures value { version_at (versions_of self.now) result ≡ latest_of (T.VersionTest.passes test.now) key (versions_of self.now) }
+        ensures within { IfSome result (λ index. index < length (versions_of self.now)) }
+        ensures law { IsLatest (T.VersionTest.passes test.now) key (versions_of self.now) (version_at (versions_of self.now) result) }
     {
         let versions = self.versions.as_slice();
         let mut found = None;
@@ -77,10 +85,7 @@ impl VersionTable {
                 };
             }
         }
-        let Some(index) = found else {
-            return None;
-        };
-        Some(versions[index])
+        found
     }
 }
 

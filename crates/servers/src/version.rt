@@ -3,6 +3,7 @@ ghost use Rattle.std.specs.Prelude.{◌≡◌};
 ghost use Rattle.servers.specs.Versions.{is_later, full_mark};
 
 use crate::value::Value;
+use stamps::issued_stamp::IssuedStamp;
 use stamps::mark_kind::MarkKind;
 use stamps::row::Row;
 use stamps::site::Site;
@@ -14,7 +15,7 @@ use stamps::stamp::Stamp;
 pub struct Version {
     pub(crate) key: u16,
     pub(crate) value: Value,
-    pub(crate) stamp: Stamp,
+    pub(crate) stamp: IssuedStamp,
     pub(crate) source: Site,
     pub(crate) mark: Row,
 }
@@ -31,7 +32,7 @@ impl Version {
     pub fn stamp(&self) -> Stamp
         ensures { result ≡ self.now.stamp }
     {
-        self.stamp
+        self.stamp.into()
     }
 
     /// The site of its put.
@@ -45,13 +46,13 @@ impl Version {
     pub(crate) fn is_later(&self, other: &Version) -> bool
         ensures { result ≡ is_later self.now other.now }
     {
-        (self.stamp, self.source) > (other.stamp, other.source)
+        (self.stamp(), self.source) > (other.stamp(), other.source)
     }
 
     /// The mark of the version and of what its writer depended on: whoever has seen it depends on these.
     pub fn full_mark<K: MarkKind>(&self) -> K::Mark
         ensures { K.MarkKind.meaning result ≡ full_mark K.MarkKind.kind self.now }
     {
-        K::join(K::floor(self.mark), K::lift(self.source, self.stamp))
+        K::join(K::floor(self.mark), K::lift(self.source, self.stamp()))
     }
 }

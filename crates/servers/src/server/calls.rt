@@ -3,13 +3,15 @@ ghost use Rattle.std.specs.Prelude.{◌≡◌, ◌==◌};
 ghost use Rattle.stamps.specs.Refusals.{RefusalKeeps};
 ghost use Rattle.servers.specs.Laws.{IsAbove};
 ghost use Rattle.servers.specs.Outboxes.{next_for};
+ghost use Rattle.servers.specs.Versions.{stamp_answered};
 ghost use Rattle.servers.specs.Servers.{view, last_of, server_tell, server_heartbeat, server_put, server_hand_over, server_take, server_take_other, lead_of};
 
 use super::Server;
 use crate::entry::Entry;
 use crate::value::Value;
 use crate::version::Version;
-use stamps::clock_rule::ClockRule;
+use stamps::clock_rule::{ClockRule, next_stamp};
+use stamps::issued_stamp::IssuedStamp;
 use stamps::mark_kind::MarkKind;
 use stamps::reading::Reading;
 use stamps::refusal::Refusal;
@@ -40,9 +42,9 @@ impl<C: ClockRule, K: MarkKind> Server<C, K> {
             return Err(Refusal::OutboxFull);
         }
         let stamp = self.next_stamp(Stamp::zero())?;
-        self.received = self.received.with_entry(self.outbox.own(), stamp);
+        self.received = self.received.with_entry(self.outbox.own(), stamp.into());
         self.outbox.issue(Entry::Heartbeat(stamp));
-        Ok(stamp)
+        Ok(stamp.into())
     }
 
     // A new version, stamped, kept and issued to the other sites. Its mark is what the session depends on; the stable
@@ -53,9 +55,9 @@ impl<C: ClockRule, K: MarkKind> Server<C, K> {
         value: Value,
         depends: K::Mark,
         knows: K::Mark,
-    ) -> Result<Stamp, Refusal>
+    ) -> Result<Version, Refusal>
         ensures step { (result, view self.new) ≡ server_put C.ClockRule.answer K.MarkKind.kind (view self.old) key value (K.MarkKind.meaning depends) (K.MarkKind.meaning knows) }
-        ensures rises { IsAbove (last_of (view self.old)) result }
+        ensures rises { IsAbove (last_of (view self.old)) (stamp_answered result) }
         ensures keeps { RefusalKeeps result (view self.old) (view self.new) }
     {
         if self.table.is_full() {
@@ -74,19 +76,19 @@ impl<C: ClockRule, K: MarkKind> Server<C, K> {
             source,
             mark,
         };
-        self.received = self.received.with_entry(source, stamp);
+        self.received = self.received.with_entry(source, stamp.into());
         self.table.keep(&version);
         self.outbox.issue(Entry::Update(version));
         self.raise(knows);
-        Ok(stamp)
+        Ok(version)
     }
 
     // The stamp that the rule gives after the last one and a dependency.
-    fn next_stamp(&self, dependency: Stamp) -> Result<Stamp, Refusal>
+    fn next_stamp(&self, dependency: Stamp) -> Result<IssuedStamp, Refusal>
         ensures value { result ≡ C.ClockRule.answer (last_of (view self.now)) self.now.reading dependency }
         ensures rises { IsAbove (last_of (view self.now)) result }
     {
-        C::stamp(
+        next_stamp::<C>(
             self.received.at(self.outbox.own()),
             self.reading,
             dependency,
@@ -129,7 +131,7 @@ impl<C: ClockRule, K: MarkKind> Server<C, K> {
             }
             self.table.keep(taken);
         }
-        self.received = self.received.with_entry(from, entry.stamp());
+        self.received = self.received.with_entry(from, entry.stamp().into());
         Ok(())
     }
 

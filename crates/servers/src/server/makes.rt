@@ -6,13 +6,11 @@ ghost use Rattle.servers.specs.Servers.{view, new_server, first_received, first_
 use super::Server;
 use crate::outbox::Outbox;
 use crate::peers::Peers;
-use crate::site_count::SiteCount;
 use crate::table::VersionTable;
 use stamps::clock_rule::ClockRule;
 use stamps::mark_kind::MarkKind;
 use stamps::reading::Reading;
 use stamps::row::Row;
-use stamps::site::Site;
 use stamps::stamp::Stamp;
 use std::marker::PhantomData;
 
@@ -20,20 +18,20 @@ impl<C: ClockRule, K: MarkKind> Server<C, K> {
     /// A server that holds nothing, and has received nothing from the sites of its layout. Never inlined: a group would
     /// hold sixteen copies of the code that fills its tables.
     #[inline(never)]
-    pub fn new(site: Site, sites: SiteCount) -> Self
-        ensures state { view result ≡ new_server site sites }
-        ensures queues { StaysQueue site sites }
-        ensures rising { StampsRise C.ClockRule.answer K.MarkKind.kind site sites }
+    pub fn new(peers: Peers) -> Self
+        ensures state { view result ≡ new_server peers.own peers.sites }
+        ensures queues { StaysQueue peers.own peers.sites }
+        ensures rising { StampsRise C.ClockRule.answer K.MarkKind.kind peers.own peers.sites }
     {
-        stamps_rise::<C, K>(site, sites);
+        stamps_rise::<C, K>(peers);
         let zero = Row::same(Stamp::zero());
         Server {
             reading: Reading::zero(),
-            received: first_received(sites),
+            received: first_received(peers.sites()),
             reported: zero,
             stable: zero,
             table: VersionTable::new(),
-            outbox: Outbox::new(Peers { own: site, sites }),
+            outbox: Outbox::new(peers),
             rule: PhantomData,
             kind: PhantomData,
         }
@@ -41,12 +39,14 @@ impl<C: ClockRule, K: MarkKind> Server<C, K> {
 }
 
 // The law that a server's own stamps rise, under every clock rule and kind of mark. It has no code.
-fn stamps_rise<C: ClockRule, K: MarkKind>(site: Site, sites: SiteCount)
-    ensures { StampsRise C.ClockRule.answer K.MarkKind.kind site sites }
-{}
+fn stamps_rise<C: ClockRule, K: MarkKind>(peers: Peers)
+    ensures { StampsRise C.ClockRule.answer K.MarkKind.kind peers.own peers.sites }
+{
+    let _ = peers.own();
+}
 
 // What was received before anything was taken.
-fn first_received(sites: SiteCount) -> Row
+fn first_received(sites: u8) -> Row
     ensures { result ≡ first_received sites }
 {
     Row::of(
@@ -58,10 +58,10 @@ fn first_received(sites: SiteCount) -> Row
 }
 
 // 0.0 for a site of the layout; the greatest stamp for one that the layout lacks.
-fn first_entry(sites: SiteCount, site: u8) -> Stamp
+fn first_entry(sites: u8, site: u8) -> Stamp
     ensures { result ≡ first_entry sites site }
 {
-    if site < sites.number() {
+    if site < sites {
         Stamp::zero()
     } else {
         Stamp::top()

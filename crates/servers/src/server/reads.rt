@@ -1,7 +1,7 @@
 //! Where a server stands, and its part of the calls that look for versions and drop them.
-ghost use Rattle.std.specs.Prelude.{◌≡◌};
+ghost use Rattle.std.specs.Prelude.{◌≡◌, ◌<◌, length, IfSome};
 ghost use Rattle.servers.specs.Laws.{IsLatest, IsTidied};
-ghost use Rattle.servers.specs.Tables.{is_covered};
+ghost use Rattle.servers.specs.Tables.{is_covered, version_at};
 ghost use Rattle.servers.specs.Servers.{view, sees, latest_visible, latest_covered, server_tidy};
 
 use super::Server;
@@ -19,10 +19,18 @@ impl<C: ClockRule, K: MarkKind> Server<C, K> {
         self.outbox.own()
     }
 
-    /// The latest version of a key that is local or that the stable mark covers.
-    pub fn latest_visible(&self, key: u16) -> Option<Version>
-        ensures value { result ≡ latest_visible K.MarkKind.kind (view self.now) key }
-        ensures law { IsLatest (sees K.MarkKind.kind (view self.now)) key (view self.now).held result }
+    /// The versions held, in order of arrival.
+    pub fn versions(&self) -> &[Version]
+        ensures { result.now ≡ (view self.now).held }
+    {
+        self.table.versions()
+    }
+
+    /// Where among the versions held the latest one of a key stands that is local or that the stable mark covers.
+    pub fn latest_visible(&self, key: u16) -> Option<usize>
+        ensures value { version_at (view self.now).held result ≡ latest_visible K.MarkKind.kind (view self.now) key }
+        ensures within { IfSome result (λ index. index < length (view self.now).held) }
+        ensures law { IsLatest (sees K.MarkKind.kind (view self.now)) key (view self.now).held (version_at (view self.now).held result) }
     {
         let test = Visible::<K> {
             site: self.outbox.own(),
@@ -31,10 +39,11 @@ impl<C: ClockRule, K: MarkKind> Server<C, K> {
         self.table.latest(key, &test)
     }
 
-    /// The latest version of a key that a cut covers.
-    pub fn latest_covered(&self, key: u16, cut: K::Mark) -> Option<Version>
-        ensures value { result ≡ latest_covered K.MarkKind.kind (view self.now) key (K.MarkKind.meaning cut) }
-        ensures law { IsLatest (is_covered K.MarkKind.kind (K.MarkKind.meaning cut)) key (view self.now).held result }
+    /// Where among the versions held the latest one of a key stands that a cut covers.
+    pub fn latest_covered(&self, key: u16, cut: K::Mark) -> Option<usize>
+        ensures value { version_at (view self.now).held result ≡ latest_covered K.MarkKind.kind (view self.now) key (K.MarkKind.meaning cut) }
+        ensures within { IfSome result (λ index. index < length (view self.now).held) }
+        ensures law { IsLatest (is_covered K.MarkKind.kind (K.MarkKind.meaning cut)) key (view self.now).held (version_at (view self.now).held result) }
     {
         let test = Covered::<K> { cut };
         self.table.latest(key, &test)

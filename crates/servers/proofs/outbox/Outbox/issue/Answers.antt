@@ -17,10 +17,10 @@ pub invariant_of-self : goal.invariant_of-self
 invariant_of-self c =
     let o = c.args.self.now in
     let n = length o.entries.items in
-    let after = issue_counts o.peers.own o.peers.sites o.left n o.sites.0 o.others o.needed in
+    let after = issue_counts o.peers.own o.peers.sites o.left n o.layout.some o.others o.needed in
     let long = ap length c.push.ensures.items ∙ length-append o.entries.items (c.args.entry ∷ []) in
     record {
-      sites = o.sites;
+      layout = o.layout;
       others = subst (IsOthersOnly o.peers.own o.peers.sites) (sym c.one_more-self.ensures) after.0;
       needed = ap greatest c.one_more-self.ensures ∙ after.1 ∙ sym long;
     }
@@ -34,6 +34,6 @@ returns c =
       queues =
           ap (λ xs. last_for xs c.one_more-self.result) c.push.ensures.items
           ∙ ap (last_for (es ++ e ∷ [])) c.one_more-self.ensures
-          ∙ issue_queues o.peers.own o.peers.sites es e o.left o.sites.1 o.others o.needed;
+          ∙ issue_queues o.peers.own o.peers.sites es e o.left o.layout.few o.others o.needed;
       peers = refl;
     }

@@ -15,7 +15,7 @@ invariant_of-self c =
     let most = ap greatest left in
     let kept = ap length c.keep_last.ensures ∙ length-drop (length es - c.greatest.result) es in
     record {
-      sites = o.sites;
+      layout = o.layout;
       others = subst (IsOthersOnly o.peers.own o.peers.sites) (sym left) after.0;
       needed = omega (arith, c.greatest.ensures, most, kept, after.1);
     }

@@ -1,12 +1,11 @@
-use Rattle.std.proofs.Common.{◌≡◌, ℕ, ◌<◌, ◌≤◌, Bool, List, length, get_or, Some, None, Option, refl, sym, ap, ◌∙◌, subst, arith}
+use Rattle.std.proofs.Common.{◌≡◌, ℕ, ◌<◌, ◌≤◌, Bool, List, length, get_or, Option, IfSome, refl, sym, ap, ◌∙◌, subst, arith}
 use Rattle.std.proofs.lemmas.List.{get_or_default, get_or_read_under}
 use Rattle.std.proofs.lemmas.Bool.Decides.{nat_tests}
-use Rattle.servers.specs.Tables.{versions_of}
 use Rattle.servers.specs.Laws.{IsLatest}
 use Rattle.servers.specs.declared.version.Version.{Version}
-use Rattle.servers.specs.Tables.{better_of, latest}
+use Rattle.servers.specs.Tables.{better_of, latest, version_at, versions_of}
 use Rattle.servers.proofs.Latest.{latest_law}
-use Rattle.servers.proofs.Seeking.{nothing, seek_all, seek_more, standing, stands, within}
+use Rattle.servers.proofs.Seeking.{is_within, nothing, seek_all, seek_more, standing, stands, within}
 use Rattle.servers.proofs.table.VersionTable.latest.Goals as goal
 use Rattle.servers.proofs.table.VersionTable.latest.Goals.{then-version-key+then-passes+in-None, then-version-key+then-passes+in-Some+then-is_later, then-version-key+then-passes+in-Some+else-is_later, else-version-key, else-version-key-via-then-version-key+else-passes, else-version-key-via-else-version-key}
 
@@ -44,22 +43,16 @@ loop-i-preserved g c =
 lawful : (test : Version → Bool) (key : ℕ) (vs : List Version) (r : Option Version) → r ≡ latest test key vs → IsLatest test key vs r
 lawful test key vs r e = subst (IsLatest test key vs) (sym e) (latest_law test key vs)
 
-pub returns-in_default : goal.returns-in_default
-returns-in_default g c =
+pub returns : goal.returns
+returns g c =
     let vs = c.as_slice-versions.result.now in
     let test = g.T.VersionTest.passes c.args.test.now in
     let le : length vs ≤ c.loop-i.i = c.loop-i-test.false in
-    let is = ap (standing nothing vs) (sym c.in_default.is) ∙ seek_all test c.args.key nothing vs c.loop-i.i c.loop-i.found le c.loop-i.invariant.1 ∙ ap (λ xs. latest test c.args.key xs) c.as_slice-versions.ensures.value in
-    record { value = is; law = lawful test c.args.key (versions_of c.args.self.now) None is }
-
-pub returns : goal.returns
-returns g c =
-    let xs = c.as_slice-versions.result.now in
-    let vs = xs in
-    let test = g.T.VersionTest.passes c.args.test.now in
-    let le : length vs ≤ c.loop-i.i = c.loop-i-test.false in
-    let inside = subst (λ o. within o (length xs)) c.in-Some-found.is c.loop-i.invariant.0 in
-    let is =
-    stands xs c.in-Some-found.index c.index-versions-index.result c.index-versions-index.is inside ∙ ap (standing nothing vs) (sym c.in-Some-found.is)
-    ∙ seek_all test c.args.key nothing vs c.loop-i.i c.loop-i.found le c.loop-i.invariant.1 ∙ ap (λ ys. latest test c.args.key ys) c.as_slice-versions.ensures.value in
-    record { value = is; law = lawful test c.args.key (versions_of c.args.self.now) (Some c.index-versions-index.result) is }
+    let held = c.as_slice-versions.ensures.value in
+    let there = c.loop-i.invariant.0 in
+    let is = ap (λ xs. version_at xs c.loop-i.found) (sym held) ∙ stands nothing vs c.loop-i.found there ∙ seek_all test c.args.key nothing vs c.loop-i.i c.loop-i.found le c.loop-i.invariant.1 ∙ ap (latest test c.args.key) held in
+    record {
+      value = is;
+      within = subst (λ xs. IfSome c.loop-i.found (λ i. i < length xs)) held (is_within c.loop-i.found (length vs) there);
+      law = lawful test c.args.key (versions_of c.args.self.now) _ is;
+    }
