@@ -10,11 +10,10 @@ use Rattle.servers.specs.Entries.{entry_stamp}
 use Rattle.servers.specs.declared.entry.Entry.{Entry}
 use Rattle.servers.specs.declared.entry.Entry.TheVariants.{Heartbeat, Update}
 use Rattle.servers.specs.Others.{is_other}
-use Rattle.servers.specs.Outboxes.{Queues, issue_entry, empty_queues, is_outbox_full, take_entry, queues_of}
-use Rattle.servers.specs.Tables.{is_covered, latest, is_table_full, table_tidy, is_visible, versions_of}
+use Rattle.servers.specs.Outboxes.{Queues, issue_entry, empty_queues, is_outbox_full, take_entry, last_for}
+use Rattle.servers.specs.Tables.{is_covered, latest, is_table_full, table_tidy, is_visible}
 use Rattle.servers.specs.declared.value.Value.{Value}
 use Rattle.servers.specs.declared.version.Version.{Version}
-use Rattle.servers.specs.declared.server.Server.{Server}
 
 -- what a clock rule answers to a last stamp, a reading and a dependency stamp
 abbrev pub Rule : Type 0
@@ -38,15 +37,28 @@ pub record ServerState : Type 0 where
   -- the outbox: what each other site has still to take
   pub waiting : Queues
 
-abbrev pub view : {C K Mark : Type 0} → Server C K Mark → ServerState
+-- what clauses see of a server, as plain data: what each other site has still to take are the last entries, as many as
+-- it has left
+pub record ServerRecord : Type 0 where
+  pub site : ℕ
+  pub sites : ℕ
+  pub reading : ℕ
+  pub received : PerSite
+  pub reported : PerSite
+  pub stable : PerSite
+  pub versions : List Version
+  pub entries : List Entry
+  pub left : PerSite
+
+abbrev pub view : ServerRecord → ServerState
 view s =
     record {
-      site = s.outbox.peers.own;
-      sites = s.outbox.peers.sites;
+      site = s.site;
+      sites = s.sites;
       reading = s.reading;
       marks = record { received = s.received; reported = s.reported; stable = s.stable };
-      held = versions_of s.table;
-      waiting = queues_of s.outbox;
+      held = s.versions;
+      waiting = last_for s.entries s.left;
     }
 
 -- nothing was received yet; a site that the layout lacks never sends anything
