@@ -5,13 +5,12 @@ use Rattle.stamps.specs.declared.refusal.Refusal.{Refusal}
 use Rattle.stamps.specs.declared.refusal.Refusal.TheVariants.{NotInLayout, NoSession, End, NoneFree, NotOpen}
 use Rattle.stamps.specs.Rows.{PerSite}
 use Rattle.stamps.specs.Kinds.{Kind}
-use Rattle.servers.specs.Servers.{Rule, ServerState, latest_visible, latest_covered, put_version, server_put, server_raise}
+use Rattle.servers.specs.Servers.{Rule, ServerState, latest_visible, latest_covered, server_put, server_raise}
 use Rattle.servers.specs.declared.value.Value.{Value}
-use Rattle.servers.specs.Versions.{full_mark}
 use Rattle.servers.specs.declared.version.Version.{Version}
 use Rattle.group.specs.Model.Events.{Shown, Ticket}
 use Rattle.group.specs.Model.Groups.{GroupState, SessionState, SeatState, lowest_free, partition_of, session_at, with_seat, with_server, with_session}
-use Rattle.group.specs.Model.Calls.{server_left, on_session, on_seat_of, with_depends, put_left, show, informed_server, learn, open_snapshot_at}
+use Rattle.group.specs.Model.Calls.{server_left, on_session, on_seat_of, depend, put_left, show, informed_server, learn, open_snapshot_at}
 use Rattle.group.specs.Sessions.{free_seat, open_at}
 use Rattle.group.proofs.Cuts.{found_free}
 
@@ -72,37 +71,37 @@ reads k g mid after y key partition site mark s found r ex ep em raises there co
     ∙ ap (λ i. show k (with_server g i (partition_of g key) (server_raise k (g.server i (partition_of g key)) (k.floor y.cut))) y.session (latest_covered k (server_raise k (g.server i (partition_of g key)) (k.floor y.cut)) key (k.floor y.cut))) ex
 
 -- a version is written, and then the session depends on it
-pub puts : (k : Kind) (g mid after : GroupState) (i key stamp : ℕ) (x : SessionState) (value : Value) (t : Result ℕ Refusal × ServerState) (mark : PerSite)
-    → (Ok stamp, mid) ≡ server_left g x.site (partition_of g key) t
-    → mark ≡ full_mark k (put_version (g.server x.site (partition_of g key)) key value (k.floor x.depends) stamp)
-    → after ≡ with_session mid i (record { site = x.site; depends = mark; knows = x.knows })
-    → (Ok stamp, after) ≡ put_left k g i x key value t
-puts k g mid after i key stamp x value (Err why, s) mark wrote full sets =
-    let first : Result ℕ Refusal × GroupState → Result ℕ Refusal = λ y. y.0 in
-    let no : ◌≡◌ {A = Result ℕ Refusal} (Ok stamp) (Err why) = ap first wrote in
+pub puts : (k : Kind) (g mid after : GroupState) (i key : ℕ) (x : SessionState) (v : Version) (t : Result Version Refusal × ServerState)
+    → (Ok v, mid) ≡ server_left g x.site (partition_of g key) t → after ≡ depend k mid i v → (Ok v.stamp, after) ≡ put_left k g i x key t
+puts k g mid after i key x v (Err why, s) wrote depends =
+    let first : Result Version Refusal × GroupState → Result Version Refusal = λ y. y.0 in
+    let no : ◌≡◌ {A = Result Version Refusal} (Ok v) (Err why) = ap first wrote in
     cc
-puts k g mid after i key stamp x value (Ok given, s) mark wrote full sets =
-    let p = partition_of g key in
-    let first : Result ℕ Refusal × GroupState → Result ℕ Refusal = λ y. y.0 in
-    let second : Result ℕ Refusal × GroupState → GroupState = λ y. y.1 in
-    let ok : ◌≡◌ {A = Result ℕ Refusal} (Ok stamp) (Ok given) = ap first wrote in
-    let same : stamp ≡ given = cc in
-    ap (λ h. (Ok stamp, h))
-    (sets ∙ ap (λ h. with_session h i (record { site = x.site; depends = mark; knows = x.knows })) (ap second wrote)
-    ∙ ap (λ m. with_session (with_server g x.site p s) i (record { site = x.site; depends = m; knows = x.knows })) full)
-    ∙ ap (λ n. (Ok n, with_session (with_server g x.site p s) i (with_depends x (full_mark k (put_version (g.server x.site p) key value (k.floor x.depends) n))))) same
+puts k g mid after i key x v (Ok given, s) wrote depends =
+    let left = with_server g x.site (partition_of g key) s in
+    let first : Result Version Refusal × GroupState → Result Version Refusal = λ y. y.0 in
+    let second : Result Version Refusal × GroupState → GroupState = λ y. y.1 in
+    let ok : ◌≡◌ {A = Result Version Refusal} (Ok v) (Ok given) = ap first wrote in
+    let same : v ≡ given = cc in
+    ap (λ h. (Ok v.stamp, h)) (depends ∙ ap (λ h. depend k h i v) (ap second wrote))
+    ∙ ap (λ (w : Version). (Ok w.stamp, depend k left i w)) same
 
 -- what was written is not, and the group is as it was
-pub puts_not : (k : Kind) (g mid : GroupState) (i key : ℕ) (why : Refusal) (x : SessionState) (value : Value) (t : Result ℕ Refusal × ServerState)
-    → (Err why, mid) ≡ server_left g x.site (partition_of g key) t → (Err why, mid) ≡ put_left k g i x key value t
-puts_not k g mid i key why x value (Err other, s) wrote = wrote
-puts_not k g mid i key why x value (Ok given, s) wrote =
-    let first : Result ℕ Refusal × GroupState → Result ℕ Refusal = λ y. y.0 in
-    let no : ◌≡◌ {A = Result ℕ Refusal} (Err why) (Ok given) = ap first wrote in
+pub puts_not : (k : Kind) (g mid : GroupState) (i key : ℕ) (why : Refusal) (x : SessionState) (t : Result Version Refusal × ServerState)
+    → (Err why, mid) ≡ server_left g x.site (partition_of g key) t → (Err why, mid) ≡ put_left k g i x key t
+puts_not k g mid i key why x (Err other, s) wrote =
+    let first : Result Version Refusal × GroupState → Result Version Refusal = λ y. y.0 in
+    let second : Result Version Refusal × GroupState → GroupState = λ y. y.1 in
+    let refused : ◌≡◌ {A = Result Version Refusal} (Err why) (Err other) = ap first wrote in
+    let same : why ≡ other = cc in
+    ap (λ h. (Err why, h)) (ap second wrote) ∙ ap (λ w. (Err w, g)) same
+puts_not k g mid i key why x (Ok given, s) wrote =
+    let first : Result Version Refusal × GroupState → Result Version Refusal = λ y. y.0 in
+    let no : ◌≡◌ {A = Result Version Refusal} (Err why) (Ok given) = ap first wrote in
     cc
 
 -- a write, by other terms for the partition and the marks
-pub writes : (rule : Rule) (k : Kind) (g mid : GroupState) (site key p p' : ℕ) (value : Value) (a a' b b' : PerSite) (r : Result ℕ Refusal)
+pub writes : (rule : Rule) (k : Kind) (g mid : GroupState) (site key p p' : ℕ) (value : Value) (a a' b b' : PerSite) (r : Result Version Refusal)
     → p ≡ p' → a ≡ a' → b ≡ b'
     → (r, mid) ≡ server_left g site p (server_put rule k (g.server site p) key value a b) → (r, mid) ≡ server_left g site p' (server_put rule k (g.server site p') key value a' b')
 writes rule k g mid site key p p' value a a' b b' r ep ea eb e =

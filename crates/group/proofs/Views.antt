@@ -1,34 +1,33 @@
 -- How the array of servers shows in the group's state.
 use Rattle.std.proofs.Common.{◌≡◌, ℕ, suc, ◌<◌, Bool, true, false, cond, ◌&&◌, eqb, ltb, List, [], ◌∷◌, map, length, get_or, set, take, drop, ◌+◌, ◌-◌, ◌*◌, ◌≤◌, Ok, Err, Option, Result, sym, refl, ap, ◌∙◌, subst, arith}
 use mathlib.Core.Path.{fun_ext}
-use Rattle.std.proofs.lemmas.List.{get_or-drop, get_or-map, get_or-set_same, get_or-set_other, get_or-take, length-drop, length-map, length-take, map-set, set-get_or}
-use Rattle.std.proofs.lemmas.Bool.{and_left, and_right, cases_eq, cond-false, cond-true, le-ltb}
+use Rattle.std.proofs.lemmas.List.{get_or_past, get_or-drop, get_or-map, get_or-set_same, get_or-set_other, get_or-take, length-drop, length-map, length-take, map-set, set-get_or}
+use Rattle.std.proofs.lemmas.Bool.{and_left, and_parts, and_right, cases_eq, cond_both, cond-false, cond-true, le-ltb, ltb-true}
 use Rattle.std.proofs.lemmas.Bool.Decides.{nat_tests}
 use Rattle.stamps.specs.declared.refusal.Refusal.{Refusal}
 use Rattle.stamps.specs.declared.refusal.Refusal.TheVariants.{NotInLayout}
 use Rattle.stamps.specs.Refusals.{RefusalKeeps}
 use Rattle.servers.proofs.RowEntries.{by_site}
-use Rattle.servers.specs.Servers.{ServerState, new_server, view as server_view}
-use Rattle.group.specs.Model.Groups.{GroupState, SessionState, SeatState}
+use Rattle.servers.specs.Servers.{ServerRecord, ServerState, new_server, view as server_view}
+use Rattle.group.specs.Model.Groups.{GroupState, SessionState, SeatState, is_server}
 use Rattle.group.specs.Model.Calls.{has_server, server_left, on_server}
-use Rattle.servers.specs.declared.server.Server.{Server}
 use Rattle.group.specs.declared.group_parts.GroupParts.{GroupParts}
 use Rattle.group.specs.declared.place.Place.{Place}
-use Rattle.group.specs.Groups.{server_of, server_from}
-use Rattle.group.specs.Parts.{call_server_at, server_at, server_record, view, with_server_at}
+use Rattle.group.specs.Groups.{server_from}
+use Rattle.group.specs.Parts.{call_server_at, server_at, view, with_server_at}
 use Rattle.group.specs.Layouts.{checked_place}
 use Rattle.group.specs.Places.{place_of}
 
 -- one server replaced in the array is that server replaced in the state
-at_set : (sites : ℕ) (xs : List ServerState) (site partition : ℕ) (s : ServerState) → length xs ≡ 16 → site < 4 → partition < 4
+at_set : (sites : ℕ) (xs : List ServerState) (site partition : ℕ) (s : ServerState) → length xs ≡ 16 → site < 4 → partition < 4 → site < sites
     → server_from sites (set xs (place_of site partition) s) ≡ (λ i n. cond (eqb i site && eqb n partition) s (server_from sites xs i n))
-at_set sites xs site partition s len ls lp =
+at_set sites xs site partition s len ls lp inside =
     fun_ext λ i. fun_ext λ n.
     grind (arith, nat_tests, cases_eq (place_of i n) (place_of site partition), get_or-set_same xs (place_of site partition) s (new_server i sites), get_or-set_other xs (place_of site partition) (place_of i n) s (new_server i sites))
 
 -- the array as it was
-at_same : (sites : ℕ) (xs : List ServerState) (site partition : ℕ) (s : ServerState) → site < 4 → partition < 4 → s ≡ server_from sites xs site partition → server_from sites (set xs (place_of site partition) s) ≡ server_from sites xs
-at_same sites xs site partition s ls lp e =
+at_same : (sites : ℕ) (xs : List ServerState) (site partition : ℕ) (s : ServerState) → site < 4 → partition < 4 → site < sites → s ≡ server_from sites xs site partition → server_from sites (set xs (place_of site partition) s) ≡ server_from sites xs
+at_same sites xs site partition s ls lp inside e =
     let here : server_from sites xs site partition ≡ get_or xs (place_of site partition) (new_server site sites) = grind (arith, nat_tests) in
     ap (λ t. server_from sites (set xs (place_of site partition) t)) (e ∙ here) ∙ ap (server_from sites) (set-get_or xs (place_of site partition) (new_server site sites))
 
@@ -50,40 +49,24 @@ rest_of g =
     record { sites = s.sites; partitions = s.partitions; sessions = s.sessions; seats = s.seats; next = s.next_serial }
 
 -- a place that there is
-abbrev pub IsPlace : Place → Type 0
-IsPlace place = (place.0 < 4) × (place.1 < 4)
-
--- the servers in plain numbers, and what stands at a place among them
-abbrev pub states : {C K Mark : Type 0} → List (Server C K Mark) → List ServerState
-states servers = map server_of (map server_record servers)
-
-length_states : {C K Mark : Type 0} (servers : List (Server C K Mark)) → length (states servers) ≡ length servers
-length_states servers = length-map (map server_record servers) server_of ∙ length-map servers server_record
-
-states_at : {C K Mark : Type 0} (servers : List (Server C K Mark)) (p : ℕ) (d : Server C K Mark) (s : ServerState) → p < length servers
-    → get_or (states servers) p s ≡ server_view (get_or servers p d)
-states_at servers p d s here =
-    get_or-map server_of (map server_record servers) p (server_record d) s (subst (λ n. p < n) (sym (length-map servers server_record)) here)
-    ∙ ap server_of (get_or-map server_record servers p d (server_record d) here)
-
-states_set : {C K Mark : Type 0} (servers : List (Server C K Mark)) (p : ℕ) (new : Server C K Mark) → states (set servers p new) ≡ set (states servers) p (server_view new)
-states_set servers p new = ap (map server_of) (map-set server_record servers p new) ∙ map-set server_of (map server_record servers) p (server_record new)
+abbrev pub IsPlace : ℕ → Place → Type 0
+IsPlace sites place = (place.0 < 4) × (place.1 < 4) × (place.0 < sites)
 
 -- the server that stands in the array
-pub at_place : {C K Mark : Type 0} (sites : ℕ) (servers : List (Server C K Mark)) (site partition p : ℕ) (d : Server C K Mark)
-    → length servers ≡ 16 → site < 4 → partition < 4
-    → p ≡ place_of site partition → server_from sites (states servers) site partition ≡ server_view (get_or servers p d)
-at_place sites servers site partition p d len ls lp e =
-    let m = states_at servers p d (new_server site sites) (omega arith) in
+pub at_place : (sites : ℕ) (servers : List ServerRecord) (site partition p : ℕ) (d : ServerRecord)
+    → length servers ≡ 16 → site < 4 → partition < 4 → site < sites
+    → p ≡ place_of site partition → server_from sites (map server_view servers) site partition ≡ server_view (get_or servers p d)
+at_place sites servers site partition p d len ls lp inside e =
+    let m = get_or-map server_view servers p d (new_server site sites) (omega arith) in
     grind (arith, nat_tests, m)
 
 -- the servers of a site stand side by side
-pub quarter : {C K Mark : Type 0} (sites : ℕ) (servers : List (Server C K Mark)) (site count first some : ℕ)
-    → length servers ≡ 16 → site < 4 → count ≤ 4 → first ≡ site * 4 → some ≡ count
+pub quarter : (sites : ℕ) (servers : List ServerRecord) (site count first some : ℕ)
+    → length servers ≡ 16 → site < 4 → site < sites → count ≤ 4 → first ≡ site * 4 → some ≡ count
     → (length (take some (drop first servers)) ≡ count)
-    × ((n : ℕ) (d : Server C K Mark) → n < length (take some (drop first servers))
-    → server_view (get_or (take some (drop first servers)) n d) ≡ server_from sites (states servers) site n)
-quarter sites servers site count first some len ls few ef es =
+    × ((n : ℕ) (d : ServerRecord) → n < length (take some (drop first servers))
+    → server_view (get_or (take some (drop first servers)) n d) ≡ server_from sites (map server_view servers) site n)
+quarter sites servers site count first some len ls inside few ef es =
     let rest = drop first servers in
     let left : length rest ≡ 16 - first = omega (arith, length-drop first servers) in
     let all : length (take some rest) ≡ count = omega (arith, length-take some rest) in (
@@ -91,44 +74,44 @@ quarter sites servers site count first some len ls few ef es =
       λ n d here.
           let below : n < some = omega arith in
           ap server_view (get_or-take some rest n d below ∙ get_or-drop first servers n d)
-          ∙ sym (at_place sites servers site n (first + n) d len ls (omega arith) (omega arith)),
+          ∙ sym (at_place sites servers site n (first + n) d len ls (omega arith) inside (omega arith)),
     )
 
 -- one server changed in the array is that server changed in the group
-pub change_server_lem : {C K Mark : Type 0} (rest : Rest) (servers : List (Server C K Mark)) (place : Place) (p : ℕ) (d new : Server C K Mark) (change : ServerState → ServerState)
-    → length servers ≡ 16 → IsPlace place → p ≡ place_of place.0 place.1 → server_view new ≡ change (server_view (get_or servers p d))
-    → (let g = state_with rest (server_from rest.sites (states servers)) in
-    state_with rest (server_from rest.sites (states (set servers p new))) ≡ with_server_at g place (change (server_at g place)))
+pub change_server_lem : (rest : Rest) (servers : List ServerRecord) (place : Place) (p : ℕ) (d new : ServerRecord) (change : ServerState → ServerState)
+    → length servers ≡ 16 → IsPlace rest.sites place → p ≡ place_of place.0 place.1 → server_view new ≡ change (server_view (get_or servers p d))
+    → (let g = state_with rest (server_from rest.sites (map server_view servers)) in
+    state_with rest (server_from rest.sites (map server_view (set servers p new))) ≡ with_server_at g place (change (server_at g place)))
 change_server_lem rest servers place p d new change len is e step =
-    let xs = states servers in
+    let xs = map server_view servers in
     let s = server_view new in
     let g = state_with rest (server_from rest.sites xs) in
-    ap (λ t. state_with rest (server_from rest.sites t)) (states_set servers p new ∙ ap (λ q. set xs q s) e)
-    ∙ ap (state_with rest) (at_set rest.sites xs place.0 place.1 s (length_states servers ∙ len) is.0 is.1)
-    ∙ ap (λ t. with_server_at g place t) (step ∙ ap change (sym (at_place rest.sites servers place.0 place.1 p d len is.0 is.1 e)))
+    ap (λ t. state_with rest (server_from rest.sites t)) (map-set server_view servers p new ∙ ap (λ q. set xs q s) e)
+    ∙ ap (state_with rest) (at_set rest.sites xs place.0 place.1 s (length-map servers server_view ∙ len) is.0 is.1 is.2)
+    ∙ ap (λ t. with_server_at g place t) (step ∙ ap change (sym (at_place rest.sites servers place.0 place.1 p d len is.0 is.1 is.2 e)))
 
 -- a server's answer, and the group with that server as it was left, are the group's answer and state
 left_server : {A : Type 0} (rest : Rest) (xs : List ServerState) (place : Place) (r : Result A Refusal) (s : ServerState)
-    → length xs ≡ 16 → IsPlace place → RefusalKeeps r (server_from rest.sites xs place.0 place.1) s
+    → length xs ≡ 16 → IsPlace rest.sites place → RefusalKeeps r (server_from rest.sites xs place.0 place.1) s
     → (r, state_with rest (server_from rest.sites (set xs (place_of place.0 place.1) s)))
     ≡ server_left (state_with rest (server_from rest.sites xs)) place.0 place.1 (r, s)
 left_server rest xs place (Ok x) s len is keeps =
-    ap (λ t. (Ok x, state_with rest t)) (at_set rest.sites xs place.0 place.1 s len is.0 is.1)
+    ap (λ t. (Ok x, state_with rest t)) (at_set rest.sites xs place.0 place.1 s len is.0 is.1 is.2)
 left_server rest xs place (Err why) s len is keeps =
-    ap (λ t. (Err why, state_with rest t)) (at_same rest.sites xs place.0 place.1 s is.0 is.1 keeps)
+    ap (λ t. (Err why, state_with rest t)) (at_same rest.sites xs place.0 place.1 s is.0 is.1 is.2 keeps)
 
 -- a call of the server at p, as the group's answer and state
-pub call_server : {C K Mark A : Type 0} (rest : Rest) (servers : List (Server C K Mark)) (place : Place) (p : ℕ) (d new : Server C K Mark) (r : Result A Refusal)
+pub call_server : {A : Type 0} (rest : Rest) (servers : List ServerRecord) (place : Place) (p : ℕ) (d new : ServerRecord) (r : Result A Refusal)
     (act : ServerState → Result A Refusal × ServerState)
-    → length servers ≡ 16 → IsPlace place → p ≡ place_of place.0 place.1
+    → length servers ≡ 16 → IsPlace rest.sites place → p ≡ place_of place.0 place.1
     → (r, server_view new) ≡ act (server_view (get_or servers p d)) → RefusalKeeps r (server_view (get_or servers p d)) (server_view new)
-    → (r, state_with rest (server_from rest.sites (states (set servers p new)))) ≡ call_server_at (state_with rest (server_from rest.sites (states servers))) place act
+    → (r, state_with rest (server_from rest.sites (map server_view (set servers p new)))) ≡ call_server_at (state_with rest (server_from rest.sites (map server_view servers))) place act
 call_server rest servers place p d new r act len is e step keeps =
     let sites = rest.sites in
-    let xs = states servers in
-    let there = at_place sites servers place.0 place.1 p d len is.0 is.1 e in
-    ap (λ t. (r, state_with rest (server_from sites t))) (states_set servers p new ∙ ap (λ q. set xs q (server_view new)) e)
-    ∙ left_server rest xs place r (server_view new) (length_states servers ∙ len) is (subst (λ s. RefusalKeeps r s (server_view new)) (sym there) keeps)
+    let xs = map server_view servers in
+    let there = at_place sites servers place.0 place.1 p d len is.0 is.1 is.2 e in
+    ap (λ t. (r, state_with rest (server_from sites t))) (map-set server_view servers p new ∙ ap (λ q. set xs q (server_view new)) e)
+    ∙ left_server rest xs place r (server_view new) (length-map servers server_view ∙ len) is (subst (λ s. RefusalKeeps r s (server_view new)) (sym there) keeps)
     ∙ ap (server_left (state_with rest (server_from sites xs)) place.0 place.1) (step ∙ ap act (sym there))
 
 -- what a check of a layout has let through
@@ -161,14 +144,22 @@ on_no_place {A} g site partition why act e = by_test (has_server g site partitio
     by_test true h = cc
     by_test false h = let same : why ≡ NotInLayout = cc in ap (λ w. (Err w, g)) same
 
+-- the site of a server that a layout has
+pub inside_of : (sites partitions site partition : ℕ) (place : Place) → (Ok place) ≡ checked_place sites partitions site partition → place.0 < sites
+inside_of sites partitions site partition place e =
+    let p = passed (is_server sites partitions site partition) place (site, partition) e in
+    let both = and_parts (ltb site sites) (ltb partition partitions) p.0 in
+    let number : ℕ × ℕ → ℕ = λ x. x.0 in
+    subst (λ n. n < sites) (sym (ap number p.1)) (ltb-true _ _ both.0)
+
 -- a call of the server at p, as the call of the group
-pub on_server_lem : {C K Mark A : Type 0} (rest : Rest) (servers : List (Server C K Mark)) (site partition : ℕ) (place : Place) (p : ℕ) (d new : Server C K Mark) (r : Result A Refusal)
+pub on_server_lem : {A : Type 0} (rest : Rest) (servers : List ServerRecord) (site partition : ℕ) (place : Place) (p : ℕ) (d new : ServerRecord) (r : Result A Refusal)
     (act : ServerState → Result A Refusal × ServerState)
-    → (Ok place) ≡ checked_place rest.sites rest.partitions site partition → length servers ≡ 16 → IsPlace place → p ≡ place_of place.0 place.1
+    → (Ok place) ≡ checked_place rest.sites rest.partitions site partition → length servers ≡ 16 → (place.0 < 4) × (place.1 < 4) → p ≡ place_of place.0 place.1
     → (r, server_view new) ≡ act (server_view (get_or servers p d)) → RefusalKeeps r (server_view (get_or servers p d)) (server_view new)
-    → (r, state_with rest (server_from rest.sites (states (set servers p new)))) ≡ on_server (state_with rest (server_from rest.sites (states servers))) site partition act
+    → (r, state_with rest (server_from rest.sites (map server_view (set servers p new)))) ≡ on_server (state_with rest (server_from rest.sites (map server_view servers))) site partition act
 on_server_lem rest servers site partition place p d new r act found len is e step keeps =
-    call_server rest servers place p d new r act len is e step keeps ∙ on_place (state_with rest (server_from rest.sites (states servers))) site partition place act found
+    call_server rest servers place p d new r act len (is.0, is.1, inside_of rest.sites rest.partitions site partition place found) e step keeps ∙ on_place (state_with rest (server_from rest.sites (map server_view servers))) site partition place act found
 
 -- a refusal of a server leaves the group as it was
 pub refused_same : {A : Type 0} (g mid : GroupState) (site partition : ℕ) (why : Refusal) (t : Result A Refusal × ServerState)
@@ -205,22 +196,38 @@ on_server_keeps g after site partition r act e = subst (λ t. RefusalKeeps t.0 g
     by_test true t = by_result t
     by_test false t = refl
 
--- four servers of each site, as they are made
-abbrev pub quartets : ServerState → ServerState → ServerState → ServerState → List ServerState
-quartets a b c d = a ∷ a ∷ a ∷ a ∷ b ∷ b ∷ b ∷ b ∷ c ∷ c ∷ c ∷ c ∷ d ∷ d ∷ d ∷ d ∷ []
+-- four servers of a site as they are made
+abbrev pub AreNew : ℕ → ℕ → ServerState → ServerState → ServerState → ServerState → Type 0
+AreNew sites site a b c d = (a ≡ new_server site sites) × (b ≡ new_server site sites) × (c ≡ new_server site sites) × (d ≡ new_server site sites)
 
-pub at_made : (sites : ℕ) (a b c d : ServerState) → a ≡ new_server 0 sites → b ≡ new_server 1 sites → c ≡ new_server 2 sites → d ≡ new_server 3 sites
-    → server_from sites (quartets a b c d) ≡ (λ site partition. new_server site sites)
-at_made sites a b c d p q r s =
-    rw (p, q, r, s) (fun_ext λ i. fun_ext λ n. by_site (λ j. server_from sites fours j n ≡ new_server j sites)
-    (at_one 0 refl refl refl refl n) (at_one 1 refl refl refl refl n) (at_one 2 refl refl refl refl n) (at_one 3 refl refl refl refl n)
-    (λ m. cond-false (ltb (suc (suc (suc (suc m)))) 4 && ltb n 4) _ (new_server (suc (suc (suc (suc m)))) sites) (and_left (ltb (suc (suc (suc (suc m)))) 4) (ltb n 4) (le-ltb (suc (suc (suc (suc m)))) 4 (omega arith)))) i)
+-- what the array of servers says as it is made
+pub at_made : (sites : ℕ) (a0 a1 a2 a3 b0 b1 b2 b3 c0 c1 c2 c3 d0 d1 d2 d3 : ServerState)
+    → (0 < sites → AreNew sites 0 a0 a1 a2 a3) → (1 < sites → AreNew sites 1 b0 b1 b2 b3)
+    → (2 < sites → AreNew sites 2 c0 c1 c2 c3) → (3 < sites → AreNew sites 3 d0 d1 d2 d3)
+    → server_from sites (a0 ∷ a1 ∷ a2 ∷ a3 ∷ b0 ∷ b1 ∷ b2 ∷ b3 ∷ c0 ∷ c1 ∷ c2 ∷ c3 ∷ d0 ∷ d1 ∷ d2 ∷ d3 ∷ []) ≡ (λ site partition. new_server site sites)
+at_made sites a0 a1 a2 a3 b0 b1 b2 b3 c0 c1 c2 c3 d0 d1 d2 d3 a b c d =
+    fun_ext λ i. fun_ext λ n. by_site (λ j. server_from sites all j n ≡ new_server j sites)
+    (row 0 a0 a1 a2 a3 a refl refl refl refl n) (row 1 b0 b1 b2 b3 b refl refl refl refl n)
+    (row 2 c0 c1 c2 c3 c refl refl refl refl n) (row 3 d0 d1 d2 d3 d refl refl refl refl n)
+    (λ m. past (suc (suc (suc (suc m)))) n (omega arith)) i
   where
-    fours : List ServerState
-    fours = quartets (new_server 0 sites) (new_server 1 sites) (new_server 2 sites) (new_server 3 sites)
+    all : List ServerState
+    all = a0 ∷ a1 ∷ a2 ∷ a3 ∷ b0 ∷ b1 ∷ b2 ∷ b3 ∷ c0 ∷ c1 ∷ c2 ∷ c3 ∷ d0 ∷ d1 ∷ d2 ∷ d3 ∷ []
 
-    at_one : (site : ℕ) → server_from sites fours site 0 ≡ new_server site sites → server_from sites fours site 1 ≡ new_server site sites → server_from sites fours site 2 ≡ new_server site sites → server_from sites fours site 3 ≡ new_server site sites
-        → (n : ℕ) → server_from sites fours site n ≡ new_server site sites
-    at_one site e f g h n =
-        by_site (λ m. server_from sites fours site m ≡ new_server site sites) e f g h
-        (λ m. cond-false (ltb site 4 && ltb (suc (suc (suc (suc m)))) 4) _ (new_server site sites) (and_right (ltb site 4) (ltb (suc (suc (suc (suc m)))) 4) (le-ltb (suc (suc (suc (suc m)))) 4 (omega arith)))) n
+    one : (site n : ℕ) → (site < sites → get_or all (place_of site n) (new_server site sites) ≡ new_server site sites)
+        → server_from sites all site n ≡ new_server site sites
+    one site n made =
+        cond_both (ltb site sites && ltb n 4) _ (new_server site sites) (λ u. u ≡ new_server site sites)
+        (λ h. let both = and_parts (ltb site sites) (ltb n 4) h in made (ltb-true site sites both.0)) (λ _. refl)
+
+    row : (site : ℕ) (e f g h : ServerState) → (site < sites → AreNew sites site e f g h)
+        → get_or all (place_of site 0) (new_server site sites) ≡ e → get_or all (place_of site 1) (new_server site sites) ≡ f
+        → get_or all (place_of site 2) (new_server site sites) ≡ g → get_or all (place_of site 3) (new_server site sites) ≡ h
+        → (n : ℕ) → server_from sites all site n ≡ new_server site sites
+    row site e f g h made p q r s n =
+        by_site (λ m. server_from sites all site m ≡ new_server site sites)
+        (one site 0 (λ l. p ∙ (made l).0)) (one site 1 (λ l. q ∙ (made l).1)) (one site 2 (λ l. r ∙ (made l).2)) (one site 3 (λ l. s ∙ (made l).3))
+        (λ m. cond-false (ltb site sites && ltb (suc (suc (suc (suc m)))) 4) _ (new_server site sites) (and_right (ltb site sites) (ltb (suc (suc (suc (suc m)))) 4) (le-ltb (suc (suc (suc (suc m)))) 4 (omega arith)))) n
+
+    past : (site n : ℕ) → 4 ≤ site → server_from sites all site n ≡ new_server site sites
+    past site n far = one site n (λ _. get_or_past all (place_of site n) (new_server site sites) (omega arith))

@@ -4,7 +4,7 @@ use Rattle.std.specs.Prelude.{Some, None, Ok, Err, Option, Result}
 use Rattle.stamps.specs.declared.refusal.Refusal.{Refusal}
 use Rattle.stamps.specs.declared.refusal.Refusal.TheVariants.{NotOpen}
 use Rattle.stamps.specs.Rows.{PerSite}
-use Rattle.group.specs.Model.Groups.{GroupState, SeatState, lowest_free, session_at}
+use Rattle.group.specs.Model.Groups.{GroupState, SeatState, SessionState, lowest_free, new_session, session_at}
 
 -- the lowest free seat, if one is free
 abbrev pub free_seat : List (Option SeatState) → Option ℕ
@@ -24,3 +24,8 @@ open_at serial (Some y) = if y.serial == serial then Ok y else Err NotOpen
 abbrev pub HasSessionsOf : ℕ → List (Option SeatState) → Type 0
 HasSessionsOf sessions seats =
     (seat : ℕ) (y : SeatState) → slice_index_or seats seat None ≡ Some y → y.session < sessions
+
+-- each session stands at one of so many sites
+abbrev pub HasSitesBelow : ℕ → List SessionState → Type 0
+HasSitesBelow sites sessions =
+    (i : ℕ) → i < length sessions → (slice_index_or sessions i (new_session 0)).site < sites

@@ -1,6 +1,6 @@
 //! What a group holds, and its calls on these parts.
 ghost use Rattle.std.specs.Prelude.{length};
-ghost use Rattle.group.specs.Sessions.{HasSessionsOf};
+ghost use Rattle.group.specs.Sessions.{HasSessionsOf, HasSitesBelow};
 
 use crate::layout::Layout;
 use crate::seats::Seats;
@@ -15,7 +15,7 @@ pub(crate) const MOST_SESSIONS: usize = 8;
 
 // Its calls take plain numbers, and refuse those that the layout lacks.
 //
-// The servers stand site by site, four to a site. Those outside the layout are never used.
+// The servers stand site by site, four to a site. Those in the places of sites that the layout lacks are never used.
 // One array, as a call of an element of an array of arrays gets no proof where the element has ghost fields.
 #[derive(Drop)]
 pub(crate) struct GroupParts<C: ClockRule, K: MarkKind> {
@@ -24,6 +24,7 @@ pub(crate) struct GroupParts<C: ClockRule, K: MarkKind> {
     sessions: ArrayVec<Session, MOST_SESSIONS>,
     seats: Seats,
     next_serial: u32,
+    ghost inside: { HasSitesBelow layout.sites sessions.items },
     ghost opened: { HasSessionsOf (length sessions.items) seats.places },
 }
 

@@ -1,10 +1,9 @@
 //! How many sites and partitions a group has.
-ghost use Rattle.std.specs.Prelude.{◌≡◌, ◌%◌};
+ghost use Rattle.std.specs.Prelude.{◌≡◌, ◌<◌, ◌%◌, IfOk};
 ghost use Rattle.group.specs.Model.GroupStore.{IsLayoutBounded};
 
 use crate::partition::Partition;
 use crate::place::Place;
-use servers::site_count::SiteCount;
 use stamps::refusal::Refusal;
 use stamps::site::Site;
 use std::marker::Model;
@@ -19,9 +18,9 @@ pub struct Draft {
 }
 
 /// Two counts that the check has passed. Only [`Draft::check`] makes one.
-#[derive(Clone, Copy)]
+#[derive(Clone, Copy, PartialEq, Eq, Debug)]
 pub struct Layout {
-    sites: SiteCount,
+    sites: u8,
     partitions: u8,
 }
 
@@ -52,8 +51,7 @@ impl Draft {
         ensures { result ≡ checked_layout self }
     {
         let Draft { sites, partitions } = self;
-        let sites = SiteCount::try_from(sites)?;
-        if partitions < 1 || partitions > 4 {
+        if sites < 2 || sites > 4 || partitions < 1 || partitions > 4 {
             return Err(Refusal::BadLayout);
         }
         Ok(Layout { sites, partitions })
@@ -64,7 +62,7 @@ impl Layout {
     ghost use Rattle.group.specs.Layouts.{below, checked_place, checked_line};
 
     /// How many sites there are.
-    pub(crate) fn sites(&self) -> SiteCount
+    pub(crate) fn sites(&self) -> u8
         ensures value { result ≡ self.now.sites }
         ensures bounded { IsLayoutBounded self.now.sites self.now.partitions }
     {
@@ -83,7 +81,7 @@ impl Layout {
     pub(crate) fn site(&self, number: u8) -> Result<Site, Refusal>
         ensures { result ≡ below self.now.sites number }
     {
-        if number >= self.sites.number() {
+        if number >= self.sites {
             return Err(Refusal::NotInLayout);
         }
         Site::try_from(number)
@@ -110,7 +108,8 @@ impl Layout {
 
     /// Where the server of a site and a partition stands.
     pub(crate) fn place(&self, site: u8, partition: u8) -> Result<Place, Refusal>
-        ensures { result ≡ checked_place self.now.sites self.now.partitions site partition }
+        ensures value { result ≡ checked_place self.now.sites self.now.partitions site partition }
+        ensures inside { IfOk result (λ place. place.0 < self.now.sites) }
     {
         let site = self.site(site)?;
         let partition = self.partition(partition)?;
@@ -119,7 +118,8 @@ impl Layout {
 
     /// The two servers of a partition between which entries go from one site to the other.
     pub(crate) fn line(&self, from: u8, to: u8, partition: u8) -> Result<(Place, Place), Refusal>
-        ensures { result ≡ checked_line self.now.sites self.now.partitions from to partition }
+        ensures value { result ≡ checked_line self.now.sites self.now.partitions from to partition }
+        ensures inside { IfOk result (λ line. (line.0.0 < self.now.sites) × (line.1.0 < self.now.sites)) }
     {
         let sender = self.place(from, partition)?;
         let taker = self.place(to, partition)?;

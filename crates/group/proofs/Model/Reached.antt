@@ -58,13 +58,13 @@ seat_same : {A : Type 0} (g : GroupState) (serial : ℕ) (y : Option SeatState) 
 seat_same g serial None act p = stays g (Err NotOpen)
 seat_same g serial (Some y) act p = test_same g (eqb y.serial serial) (act y) NotOpen (p y)
 
-put_same : (k : Kind) (g : GroupState) (i : ℕ) (x : SessionState) (key : ℕ) (value : Value) (r : Result ℕ Refusal × ServerState) → SameLayout g (put_left k g i x key value r)
-put_same k g i x key value (Ok stamp, s) = record { sites = refl; partitions = refl }
-put_same k g i x key value (Err why, s) = stays g (Err why)
+put_same : (k : Kind) (g : GroupState) (i : ℕ) (x : SessionState) (key : ℕ) (r : Result Version Refusal × ServerState) → SameLayout g (put_left k g i x key r)
+put_same k g i x key (Ok w, s) = record { sites = refl; partitions = refl }
+put_same k g i x key (Err why, s) = stays g (Err why)
 
-worth_same : (rule : Rule) (k : Kind) (g : GroupState) (i key : ℕ) (x : SessionState) (v : Result Value Refusal) → SameLayout g (put_value rule k g i key x v)
-worth_same rule k g i key x (Err why) = stays g (Err why)
-worth_same rule k g i key x (Ok value) = put_same k g i x key value _
+put_value_same : (rule : Rule) (k : Kind) (g : GroupState) (i key : ℕ) (x : SessionState) (v : Result Value Refusal) → SameLayout g (put_value rule k g i key x v)
+put_value_same rule k g i key x (Err why) = stays g (Err why)
+put_value_same rule k g i key x (Ok value) = put_same k g i x key _
 
 show_same : (k : Kind) (g h : GroupState) (i : ℕ) (v : Option Version) → h.sites ≡ g.sites → h.partitions ≡ g.partitions → SameLayout g (show k h i v)
 show_same k g h i None p q = record { sites = p; partitions = q }
@@ -88,7 +88,7 @@ asked_same rule k g (open_session site) =
     test_same g (ltb site g.sites) _ NotInLayout
     (both_same g (leb 8 (length g.sessions)) (Err NoneFree, g) (Ok (length g.sessions), with_sessions g (g.sessions ++ (new_session site ∷ []))) (stays g (Err NoneFree)) (record { sites = refl; partitions = refl }))
 asked_same rule k g (tell site partition time) = on_server_same g site partition (λ s. server_tell s time)
-asked_same rule k g (put i key kind amount) = on_session_same g i (λ x. put_value rule k g i key x (value_from kind amount)) (worth_same rule k g i key _ _)
+asked_same rule k g (put i key kind amount) = on_session_same g i (λ x. put_value rule k g i key x (value_from kind amount)) (put_value_same rule k g i key _ _)
 asked_same rule k g (get i key) = on_session_same g i (λ x. show k (learn k g i x (partition_of g key)) i (latest_visible k (informed_server k g x (partition_of g key)) key)) (show_same k g _ i _ refl refl)
 asked_same rule k g (heartbeat site partition) = on_server_same g site partition (server_heartbeat rule)
 asked_same rule k g (deliver from to partition) = test_same g (is_line g.sites g.partitions from to partition) _ NotInLayout (delivered_same g from to partition (next_for (g.server from partition).waiting to))

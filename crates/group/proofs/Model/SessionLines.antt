@@ -198,7 +198,7 @@ module _ {k : Kind} (law : IsLawfulKind k) {sites : ℕ} {h : History} {g : Grou
       (i < length g.sessions) × (last_of (g.server (session_at g i).site (partition_of g key)) < stamp)
   put_above rule clock i key kind amount stamp =
       cond_both {A = Result ℕ Refusal × GroupState} (ltb i (length g.sessions)) _ (Err NoSession, g) (λ r. r.0 ≡ Ok stamp → Good)
-      (λ e. with_worth (ltb-true _ _ e) (value_from kind amount)) (λ _ e. refusal e)
+      (λ e. with_value (ltb-true _ _ e) (value_from kind amount)) (λ _ e. refusal e)
     where
       y : SessionState
       y = session_at g i
@@ -215,18 +215,18 @@ module _ {k : Kind} (law : IsLawfulKind k) {sites : ℕ} {h : History} {g : Grou
       refusal : {why : Refusal} → ◌≡◌ {A = Result ℕ Refusal} (Err why) (Ok stamp) → Good
       refusal e = let z : ◌≡◌ {A = ℕ} 0 1 = cc in absurd (omega arith)
 
-      with_worth : i < length g.sessions → (w : Result Value Refusal) → (put_value rule k g i key y w).0 ≡ Ok stamp → Good
-      with_worth l (Err why) = λ e. refusal e
-      with_worth l (Ok value) =
-          cond_both {A = Result ℕ Refusal × ServerState} (is_table_full server.held) (Err TableFull, server) _ (λ r. (put_left k g i y key value r).0 ≡ Ok stamp → Good)
+      with_value : i < length g.sessions → (w : Result Value Refusal) → (put_value rule k g i key y w).0 ≡ Ok stamp → Good
+      with_value l (Err why) = λ e. refusal e
+      with_value l (Ok value) =
+          cond_both {A = Result Version Refusal × ServerState} (is_table_full server.held) (Err TableFull, server) _ (λ r. (put_left k g i y key r).0 ≡ Ok stamp → Good)
           (λ _ e. refusal e)
-          (λ _. cond_both {A = Result ℕ Refusal × ServerState} (is_outbox_full server.site server.sites server.waiting) (Err OutboxFull, server) _ (λ r. (put_left k g i y key value r).0 ≡ Ok stamp → Good)
+          (λ _. cond_both {A = Result Version Refusal × ServerState} (is_outbox_full server.site server.sites server.waiting) (Err OutboxFull, server) _ (λ r. (put_left k g i y key r).0 ≡ Ok stamp → Good)
           (λ _ e. refusal e)
           (λ _. stamped (rule (last_of server) server.reading (greatest dep))
           (clock.allowed (last_of server) server.reading (greatest dep) (stamps_at server.marks.received server.site (v.core.marks.received_stamps y.site (partition_of g key))) (v.frame.servers y.site (partition_of g key)).reading
           (let d = (floor_mark law (v.core.sessions i l).depends_mark.0).0 in omega arith))))
         where
-          stamped : (r : Result ℕ Refusal) → IsAllowed (last_of server) (greatest dep) r → (put_left k g i y key value (server_put_with k server key value dep (k.floor y.knows) r)).0 ≡ Ok stamp → Good
+          stamped : (r : Result ℕ Refusal) → IsAllowed (last_of server) (greatest dep) r → (put_left k g i y key (server_put_with k server key value dep (k.floor y.knows) r)).0 ≡ Ok stamp → Good
           stamped (Ok t) a e = let same : t ≡ stamp = ok_same e in (l, subst (λ (z : ℕ). last_of server < z) same a.0)
           stamped (Err why) a e = refusal e
 

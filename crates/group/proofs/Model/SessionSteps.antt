@@ -115,7 +115,7 @@ module _ {k : Kind} (law : IsLawfulKind k) {sites : ℕ} {h : History} {g : Grou
 
   -- ---- a put
 
-  module _ (i key kind amount : ℕ) (l : i < length g.sessions) (value : Value) (worth : value_from kind amount ≡ Ok value) where
+  module _ (i key kind amount : ℕ) (l : i < length g.sessions) (value : Value) (lawful : value_from kind amount ≡ Ok value) where
     abbrev x : SessionState
     x = session_at g i
 
@@ -139,7 +139,7 @@ module _ {k : Kind} (law : IsLawfulKind k) {sites : ℕ} {h : History} {g : Grou
     server' t = raised_server k (server_issue (server_keep srv (ver t)) (Update (ver t))) (k.floor x.knows)
 
     abbrev session' : ℕ → SessionState
-    session' t = with_depends x (full_mark k (ver t))
+    session' t = with_depends x (join (k.floor x.depends) (full_mark k (ver t)))
 
     abbrev g1 : ℕ → GroupState
     g1 t = with_server g s n (server' t)
@@ -186,10 +186,10 @@ module _ {k : Kind} (law : IsLawfulKind k) {sites : ℕ} {h : History} {g : Grou
       core2 =
           let inv = core1.sessions i l in
           grow_session law (g1 t) v.frame.layout.few_sites v.frame.layout.some_partitions core1 i (session' t) l refl
-          (covers_trans (full_mark_lem law (ver t) marked) (floor_over law (v.core.sessions i l).depends_mark)) (covers_self x.knows)
+          (covers_trans (join_left (k.floor x.depends) (full_mark k (ver t))) (floor_over law (v.core.sessions i l).depends_mark)) (covers_self x.knows)
           (record {
             inside = inv.inside;
-            depends_mark = full_is_mark law (ver t) marked (subst (λ (z : ℕ). z < 4) (sym site_is) (let f = v.frame.layout.few_sites in let q = in_s in omega arith)) small;
+            depends_mark = join_mark law marked (full_is_mark law (ver t) marked (subst (λ (z : ℕ). z < 4) (sym site_is) (let f = v.frame.layout.few_sites in let q = in_s in omega arith)) small);
             knows_mark = inv.knows_mark;
             knows_below = inv.knows_below;
           })
@@ -221,7 +221,7 @@ module _ {k : Kind} (law : IsLawfulKind k) {sites : ℕ} {h : History} {g : Grou
       core3 : Core k L (pasts_with_put (HasInPast h) i (name_of (ver t))) (tables k (g2 t)) G'
       core3 = written_too i (ver t) (subst (λ (z : ℕ). i < z) (sym (length-set g.sessions i (session' t))) l) (inl refl) source
           (subst (λ (z : ℕ). Had L (λ a b. ((g2 t).server a b).marks.received) z (ver t)) source (core2.logs.stamped (ver t) (inl refl)))
-          (subst (λ (y : SessionState). Covers y.depends (full_mark k (ver t))) (sym same) (covers_self (full_mark k (ver t))))
+          (subst (λ (y : SessionState). Covers y.depends (full_mark k (ver t))) (sym same) (join_right (k.floor x.depends) (full_mark k (ver t))))
           before core2
 
       name : Put
@@ -257,7 +257,7 @@ module _ {k : Kind} (law : IsLawfulKind k) {sites : ℕ} {h : History} {g : Grou
       grows = record { more = le_refl g.next_serial; same_cut = λ q lq. refl; best = best' }
 
       written' : (w : Version) → IsIn w (ver t ∷ G.log) → WasPut (wrote i key kind amount t ∷ h) (name_of w) w.value
-      written' w (inl e) = subst (λ (z : Version). WasPut (wrote i key kind amount t ∷ h) (name_of z) z.value) (sym e) (inr (named, worth))
+      written' w (inl e) = subst (λ (z : Version). WasPut (wrote i key kind amount t ∷ h) (name_of z) z.value) (sym e) (inr (named, lawful))
       written' w (inr j) = inl (v.written w j)
 
       logged' : (p : Put) (y : Value) → WasPut (wrote i key kind amount t ∷ h) p y → (w : Version) × IsIn w (ver t ∷ G.log) × (name_of w ≡ p)
@@ -300,7 +300,7 @@ module _ {k : Kind} (law : IsLawfulKind k) {sites : ℕ} {h : History} {g : Grou
       Kept k sites h g G (what_is_told (put i key kind amount) (on_session g i (λ x. put_value rule k g i key x (value_from kind amount))).0) (on_session g i (λ x. put_value rule k g i key x (value_from kind amount))).1
   keeps_put rule clock i key kind amount =
       cond_both {A = Result ℕ Refusal × GroupState} (ltb i (length g.sessions)) _ (Err NoSession, g) Fine
-      (λ e. with_worth (ltb-true _ _ e) (value_from kind amount) refl) (λ _. refused_kept v)
+      (λ e. with_value (ltb-true _ _ e) (value_from kind amount) refl) (λ _. refused_kept v)
     where
       Fine : Result ℕ Refusal × GroupState → Type 0
       Fine r = Kept k sites h g G (what_is_told (put i key kind amount) r.0) r.1
@@ -314,12 +314,12 @@ module _ {k : Kind} (law : IsLawfulKind k) {sites : ℕ} {h : History} {g : Grou
       dep : PerSite
       dep = k.floor y.depends
 
-      with_worth : i < length g.sessions → (w : Result Value Refusal) → value_from kind amount ≡ w → Fine (put_value rule k g i key y w)
-      with_worth l (Err why) e = refused_kept v
-      with_worth l (Ok value) e =
-          cond_both {A = Result ℕ Refusal × ServerState} (is_table_full server.held) (Err TableFull, server) _ (λ r. Fine (put_left k g i y key value r))
+      with_value : i < length g.sessions → (w : Result Value Refusal) → value_from kind amount ≡ w → Fine (put_value rule k g i key y w)
+      with_value l (Err why) e = refused_kept v
+      with_value l (Ok value) e =
+          cond_both {A = Result Version Refusal × ServerState} (is_table_full server.held) (Err TableFull, server) _ (λ r. Fine (put_left k g i y key r))
           (λ _. refused_kept v)
-          (λ room. cond_both {A = Result ℕ Refusal × ServerState} (is_outbox_full server.site server.sites server.waiting) (Err OutboxFull, server) _ (λ r. Fine (put_left k g i y key value r))
+          (λ room. cond_both {A = Result Version Refusal × ServerState} (is_outbox_full server.site server.sites server.waiting) (Err OutboxFull, server) _ (λ r. Fine (put_left k g i y key r))
           (λ _. refused_kept v)
           (λ free. stamped room free (rule (last_of server) server.reading (greatest dep))
           (clock.allowed (last_of server) server.reading (greatest dep) (stamps_at server.marks.received server.site (v.core.marks.received_stamps y.site (partition_of g key))) (v.frame.servers y.site (partition_of g key)).reading small_dep)))
@@ -328,7 +328,7 @@ module _ {k : Kind} (law : IsLawfulKind k) {sites : ℕ} {h : History} {g : Grou
           small_dep = let d = (floor_mark law (v.core.sessions i l).depends_mark.0).0 in omega arith
 
           stamped : is_table_full server.held ≡ false → is_outbox_full server.site server.sites server.waiting ≡ false → (r : Result ℕ Refusal) → IsAllowed (last_of server) (greatest dep) r →
-              Fine (put_left k g i y key value (server_put_with k server key value dep (k.floor y.knows) r))
+              Fine (put_left k g i y key (server_put_with k server key value dep (k.floor y.knows) r))
           stamped room free (Ok t) a = put_kept i key kind amount l value e t room free a.0 a.1 a.2
           stamped room free (Err why) a = refused_kept v
 

@@ -8,7 +8,7 @@ use Rattle.stamps.specs.Rows.{PerSite, join}
 use Rattle.stamps.specs.Kinds.{Kind}
 use Rattle.servers.specs.declared.entry.Entry.{Entry}
 use Rattle.servers.specs.Outboxes.{next_for}
-use Rattle.servers.specs.Servers.{Rule, ServerState, server_tell, server_heartbeat, server_put, put_version}
+use Rattle.servers.specs.Servers.{Rule, ServerState, server_tell, server_heartbeat, server_put}
 use Rattle.servers.specs.Servers.{server_take, server_hand_over, lead_of, server_raise, server_report, latest_visible}
 use Rattle.servers.specs.Servers.{latest_covered, server_tidy}
 use Rattle.servers.specs.Values.{value_from}
@@ -71,30 +71,30 @@ open_session_step g site =
 abbrev pub with_depends : SessionState → PerSite → SessionState
 with_depends x depends = record x { depends = depends }
 
--- put: the session depends from then on on the new version
+-- what is shown of a version
+abbrev pub shown_of : Version → Shown
+shown_of v = record { value = v.value; stamp = v.stamp; source = v.source }
+
+-- a session depends on a version from then on
+abbrev pub depend : Kind → GroupState → ℕ → Version → GroupState
+depend k g i v =
+    let x = session_at g i in
+    with_session g i (with_depends x (join (k.floor x.depends) (full_mark k v)))
+
+-- put: the stamp of the new version is answered, and the session depends on the version from then on
 abbrev pub put_left :
-    Kind → GroupState → ℕ → SessionState → ℕ → Value → Result ℕ Refusal × ServerState → Result ℕ Refusal × GroupState
-put_left k g i x key value (Err why, s) = (Err why, g)
-put_left k g i x key value (Ok stamp, s) =
-    let v = put_version (g.server x.site (partition_of g key)) key value (k.floor x.depends) stamp in
-    (Ok stamp, with_session (with_server g x.site (partition_of g key) s) i (with_depends x (full_mark k v)))
+    Kind → GroupState → ℕ → SessionState → ℕ → Result Version Refusal × ServerState → Result ℕ Refusal × GroupState
+put_left k g i x key (Err why, s) = (Err why, g)
+put_left k g i x key (Ok v, s) = (Ok v.stamp, depend k (with_server g x.site (partition_of g key) s) i v)
 
 abbrev pub put_value :
     Rule → Kind → GroupState → ℕ → ℕ → SessionState → Result Value Refusal → Result ℕ Refusal × GroupState
 put_value rule k g i key x (Err why) = (Err why, g)
 put_value rule k g i key x (Ok value) =
     let s = g.server x.site (partition_of g key) in
-    put_left k g i x key value (server_put rule k s key value (k.floor x.depends) (k.floor x.knows))
+    put_left k g i x key (server_put rule k s key value (k.floor x.depends) (k.floor x.knows))
 
 -- a session was shown a version, or none: it depends on the version from then on
-abbrev pub shown_of : Version → Shown
-shown_of v = record { value = v.value; stamp = v.stamp; source = v.source }
-
-abbrev pub depend : Kind → GroupState → ℕ → Version → GroupState
-depend k g i v =
-    let x = session_at g i in
-    with_session g i (with_depends x (join (k.floor x.depends) (full_mark k v)))
-
 abbrev pub show : Kind → GroupState → ℕ → Option Version → Result (Option Shown) Refusal × GroupState
 show k g i None = (Ok None, g)
 show k g i (Some v) = (Ok (Some (shown_of v)), depend k g i v)

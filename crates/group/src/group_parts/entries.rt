@@ -8,7 +8,6 @@ ghost use Rattle.group.specs.Parts.{view};
 
 use super::GroupParts;
 use crate::place::Place;
-use crate::session::Session;
 use crate::shown::Shown;
 use servers::value::Value;
 use stamps::clock_rule::ClockRule;
@@ -49,12 +48,10 @@ impl<C: ClockRule, K: MarkKind> GroupParts<C, K> {
             site: session.site,
             partition: self.layout.partition_of(key),
         };
-        let mark = K::floor(session.depends);
-        let source = self.server(place).site();
-        let stamp = self.write(place, key, value, mark, K::floor(session.knows))?;
-        let depends = K::row(K::join(mark, K::lift(source, stamp)));
-        self.set_session(number, Session { depends, ..session });
-        Ok(stamp)
+        let depends = K::floor(session.depends);
+        let version = self.write(place, key, value, depends, K::floor(session.knows))?;
+        self.depend(number, &version);
+        Ok(version.stamp())
     }
 
     // The latest version of a key that the session's server shows, or none.
@@ -67,7 +64,9 @@ impl<C: ClockRule, K: MarkKind> GroupParts<C, K> {
         }
         let partition = self.layout.partition_of(key);
         let place = self.learn(session, partition);
-        let found = self.server(place).latest_visible(key);
-        Ok(self.show(session, found))
+        let Some(index) = self.server(place).latest_visible(key) else {
+            return Ok(None);
+        };
+        Ok(Some(self.show(session, place, index)))
     }
 }

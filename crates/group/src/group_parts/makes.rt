@@ -1,5 +1,5 @@
 //! The making of a group.
-ghost use Rattle.std.specs.Prelude.{◌≡◌, ◌<◌};
+ghost use Rattle.std.specs.Prelude.{◌≡◌, ◌<◌, ◌≤◌};
 ghost use Rattle.group.specs.Model.Groups.{new_group};
 ghost use Rattle.group.specs.Model.GroupStore.{group_store};
 ghost use Rattle.group.specs.Model.Promises.{KeepsPromises};
@@ -11,8 +11,8 @@ use crate::layout::Layout;
 use crate::place::site_of;
 use crate::seats::Seats;
 use arrayvec::ArrayVec;
+use servers::peers::Peers;
 use servers::server::Server;
-use servers::site_count::SiteCount;
 use stamps::clock_rule::ClockRule;
 use stamps::mark_kind::MarkKind;
 
@@ -28,22 +28,22 @@ impl<C: ClockRule, K: MarkKind> GroupParts<C, K> {
             layout,
             // Written out: a function of the index would have to be told which indices there are.
             servers: [
-                made_at(0, sites),
-                made_at(0, sites),
-                made_at(0, sites),
-                made_at(0, sites),
-                made_at(1, sites),
-                made_at(1, sites),
-                made_at(1, sites),
-                made_at(1, sites),
-                made_at(2, sites),
-                made_at(2, sites),
-                made_at(2, sites),
-                made_at(2, sites),
-                made_at(3, sites),
-                made_at(3, sites),
-                made_at(3, sites),
-                made_at(3, sites),
+                made_at(sites, 0),
+                made_at(sites, 0),
+                made_at(sites, 0),
+                made_at(sites, 0),
+                made_at(sites, 1),
+                made_at(sites, 1),
+                made_at(sites, 1),
+                made_at(sites, 1),
+                made_at(sites, 2),
+                made_at(sites, 2),
+                made_at(sites, 2),
+                made_at(sites, 2),
+                made_at(sites, 3),
+                made_at(sites, 3),
+                made_at(sites, 3),
+                made_at(sites, 3),
             ],
             sessions: ArrayVec::new(),
             seats: Seats::new(),
@@ -52,10 +52,14 @@ impl<C: ClockRule, K: MarkKind> GroupParts<C, K> {
     }
 }
 
-// The server of a site as it is made.
-fn made_at<C: ClockRule, K: MarkKind>(number: u8, sites: SiteCount) -> Server<C, K>
-    requires { number < 4 }
-    ensures { server_view result ≡ new_server number sites }
+// The server of a site as it is made. In place of a site that the layout lacks, one of site 0, which is never used.
+fn made_at<C: ClockRule, K: MarkKind>(sites: u8, site: u8) -> Server<C, K>
+    requires { (2 ≤ sites) × (sites ≤ 4) }
+    ensures { site < sites → server_view result ≡ new_server site sites }
 {
-    Server::new(site_of(number), sites)
+    let site = if site < sites { site } else { 0 };
+    match Peers::new(site_of(site), sites) {
+        Ok(peers) => Server::new(peers),
+        Err(_) => unreachable(),
+    }
 }

@@ -1,9 +1,8 @@
 //! The rows of marks that a common floor is taken of.
 ghost use Rattle.std.specs.Prelude.{◌≡◌, ◌<◌, ◌≤◌, ◌++◌, length};
-ghost use Rattle.std.specs.Fn.{FnReturnsAt};
 ghost use Rattle.std.specs.Option.{ForSome};
-ghost use Rattle.group.specs.Model.Groups.{stable_at, cuts_at};
-ghost use Rattle.group.specs.Parts.{view, IsRowList, IsServerList};
+ghost use Rattle.group.specs.Model.Groups.{reported_at, stable_at, cuts_at};
+ghost use Rattle.group.specs.Parts.{view, IsServerList};
 ghost use Rattle.group.specs.Sessions.{cut_in};
 
 use super::GroupParts;
@@ -21,26 +20,34 @@ use stamps::site::Site;
 const MOST_ROWS: usize = 8;
 
 impl<C: ClockRule, K: MarkKind> GroupParts<C, K> {
-    // A row of each server of a site, by partition.
-    pub(crate) fn rows_of<F: Fn(&Server<C, K>) -> Row>(
-        &self,
-        site: Site,
-        get_row: F,
-    ) -> ArrayVec<Row, MOST_ROWS>
-        requires { F.IsAlwaysCallable get_row }
-        ensures few { length result.items ≤ 4 }
-        ensures rows { IsRowList (λ s r. FnReturnsAt F.Fn get_row s r)
-            ((view self.now).server site) (view self.now).partitions result.items }
+    // The reported marks of a site's servers, by partition.
+    pub(crate) fn reported_rows(&self, site: Site) -> ArrayVec<Row, MOST_ROWS>
+        requires { site < (view self.now).sites }
+        ensures { result.items ≡ reported_at (view self.now) site }
     {
         let mut rows = ArrayVec::new();
         for server in self.servers_of(site) {
-            rows.push(get_row(server));
+            rows.push(server.reported());
+        }
+        rows
+    }
+
+    // The stable marks of a site's servers, by partition.
+    fn stable_rows(&self, site: Site) -> ArrayVec<Row, MOST_ROWS>
+        requires { site < (view self.now).sites }
+        ensures few { length result.items ≤ 4 }
+        ensures rows { result.items ≡ stable_at (view self.now) site }
+    {
+        let mut rows = ArrayVec::new();
+        for server in self.servers_of(site) {
+            rows.push(server.stable());
         }
         rows
     }
 
     // The servers of a site, by partition.
     fn servers_of(&self, site: Site) -> &[Server<C, K>]
+        requires { site < (view self.now).sites }
         ensures few { length result.now ≤ 4 }
         ensures servers { IsServerList self.now site result.now }
     {
@@ -55,9 +62,10 @@ impl<C: ClockRule, K: MarkKind> GroupParts<C, K> {
 
     // The stable marks of a site's servers, and the cuts of the open snapshots of its sessions.
     pub(crate) fn safe_rows(&self, site: Site) -> ArrayVec<Row, MOST_ROWS>
+        requires { site < (view self.now).sites }
         ensures { result.items ≡ stable_at (view self.now) site ++ cuts_at (view self.now) site }
     {
-        let mut rows = self.rows_of(site, |server| server.stable());
+        let mut rows = self.stable_rows(site);
         for seat in self.seats.as_slice() {
             if let Some(cut) = self.cut_of(*seat, site) {
                 rows.push(cut);

@@ -1,10 +1,10 @@
 //! The sessions of a group.
-ghost use Rattle.std.specs.Prelude.{◌≡◌, ◌<◌, length, nat_lt};
+ghost use Rattle.std.specs.Prelude.{◌≡◌, ◌<◌, length, nat_lt, slice_get};
 ghost use Rattle.stamps.specs.Refusals.{RefusalKeeps};
 ghost use Rattle.group.specs.Model.Calls.{IsStep, learn, depend, show};
 ghost use Rattle.group.specs.Model.Events as call;
 ghost use Rattle.group.specs.Model.Groups.{with_session, session_at};
-ghost use Rattle.group.specs.Parts.{view};
+ghost use Rattle.group.specs.Parts.{server_at, view};
 
 use super::GroupParts;
 use crate::partition::Partition;
@@ -40,14 +40,16 @@ impl<C: ClockRule, K: MarkKind> GroupParts<C, K> {
     // The session of a number.
     pub(crate) fn session_at(&self, number: u8) -> Session
         requires { number < length (view self.now).sessions }
-        ensures { result ≡ session_at (view self.now) number }
+        ensures value { result ≡ session_at (view self.now) number }
+        ensures inside { result.site < (view self.now).sites }
     {
         self.sessions.as_slice()[number as usize]
     }
 
     // The session of a number is replaced.
     pub(crate) fn set_session(&mut self, number: u8, session: Session)
-        requires { number < length (view self.old).sessions }
+        requires opened { number < length (view self.old).sessions }
+        requires inside { session.site < (view self.old).sites }
         ensures { view self.new ≡ with_session (view self.old) number session }
     {
         self.sessions[number as usize] = session;
@@ -82,13 +84,16 @@ impl<C: ClockRule, K: MarkKind> GroupParts<C, K> {
         self.set_session(number, Session { depends, ..session });
     }
 
-    // What is shown of the version that was found, if one was. The session depends on it from then on.
-    pub(crate) fn show(&mut self, session: u8, found: Option<Version>) -> Option<Shown>
-        requires { session < length (view self.old).sessions }
-        ensures { (Ok result, view self.new) ≡ show K.kind (view self.old) session found }
+    // What is shown of the version that stands at an index of a server. The session depends on it from then on.
+    pub(crate) fn show(&mut self, session: u8, place: Place, index: usize) -> Shown
+        requires opened { session < length (view self.old).sessions }
+        requires inside { place.0 < (view self.old).sites }
+        requires held { index < length (server_at (view self.old) place).held }
+        ensures { let found = slice_get (server_at (view self.old) place).held index in
+            (Ok (Some result), view self.new) ≡ show K.kind (view self.old) session found }
     {
-        let version = found?;
+        let version = self.server(place).versions()[index];
         self.depend(session, &version);
-        Some(Shown::from(&version))
+        Shown::from(&version)
     }
 }

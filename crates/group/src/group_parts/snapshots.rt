@@ -86,8 +86,10 @@ impl<C: ClockRule, K: MarkKind> GroupParts<C, K> {
         };
         let cut = K::floor(seat.cut);
         self.raise(place, cut);
-        let found = self.server(place).latest_covered(key, cut);
-        Ok(self.show(seat.session, found))
+        let Some(index) = self.server(place).latest_covered(key, cut) else {
+            return Ok(None);
+        };
+        Ok(Some(self.show(seat.session, place, index)))
     }
 
     // The end of a snapshot. The ticket is taken in either case, done or refused.

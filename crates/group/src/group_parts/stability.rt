@@ -28,7 +28,7 @@ impl<C: ClockRule, K: MarkKind> GroupParts<C, K> {
         ensures keeps { RefusalKeeps result (view self.old) (view self.new) }
     {
         let place = self.layout.place(site, partition)?;
-        let rows = self.rows_of(place.site, |server| server.reported());
+        let rows = self.reported_rows(place.site);
         let floor = common_floor::<K>(rows.as_slice());
         self.raise(place, floor);
         Ok(())

@@ -15,4 +15,4 @@ returns-clause-state g c =
     learns k before (view c.raise.new.self) (view c.set_session.new.self) c.args.number p x
     (g.K.MarkKind.meaning c.floor.result) (c.stable-knows.result) c.raise.ensures c.floor.ensures.value
     (c.stable-knows.ensures ∙ ap (λ (s : ServerState). s.marks.stable) c.server.ensures) c.set_session.ensures
-    ∙ ap (λ x. learn k before c.args.number x p) (c.session.view_is ∙ c.session_at-session.ensures)
+    ∙ ap (λ x. learn k before c.args.number x p) (c.session.view_is ∙ c.session_at-session.ensures.value)

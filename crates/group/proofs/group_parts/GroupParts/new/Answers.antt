@@ -1,23 +1,42 @@
-use Rattle.std.proofs.Common.{◌≡◌, ℕ, List, [], ◌∷◌, None, Option, sym, refl, ap, ◌∙◌, subst, arith}
+use Rattle.std.proofs.Common.{◌≡◌, ℕ, ◌<◌, List, [], ◌∷◌, length, get_or, Some, None, Option, sym, refl, ap, ◌∙◌, subst, arith}
+use Rattle.servers.proofs.RowEntries.{by_site}
 use Rattle.servers.specs.Servers.{ServerState, new_server}
 use Rattle.group.specs.Model.Groups.{SessionState, SeatState, new_group}
 use Rattle.group.specs.Model.GroupStore.{group_store}
 use Rattle.group.specs.Model.Promises.{KeepsPromises}
 use Rattle.group.proofs.Model.Theorem.{keeps_promises}
-use Rattle.group.proofs.Views.{state_with, at_made, quartets}
-use Rattle.group.specs.Groups.{server_from}
+use Rattle.group.proofs.Views.{state_with, at_made}
 use Rattle.group.proofs.group_parts.GroupParts.new.Goals as goal
 
 -- each of the four servers is fresh for its own site, and there are no sessions and no open snapshots; such a group keeps
 -- the promises
+-- there are no sessions and no open snapshots
+pub invariant_of-result : goal.invariant_of-result
+invariant_of-result g c =
+    let none : (seat : ℕ) → get_or c.new-2.result.places seat None ≡ None =
+    λ seat. ap (λ (xs : List (Option SeatState)). get_or xs seat None) c.new-2.ensures ∙ free seat
+    in
+    record {
+      inside = λ i l. let empty = ap length c.new.ensures in absurd (omega arith);
+      opened = λ seat y is. let no : ◌≡◌ {A = Option SeatState} None (Some y) = sym (none seat) ∙ is in absurd (cc);
+    }
+  where
+    free : (seat : ℕ) → get_or {A = Option SeatState} (None ∷ None ∷ None ∷ None ∷ []) seat None ≡ None
+    free seat = by_site (λ n. get_or {A = Option SeatState} (None ∷ None ∷ None ∷ None ∷ []) n None ≡ None) refl refl refl refl (λ _. refl) seat
+
+-- each server of the layout is new for its own site, and there are no sessions and no open snapshots; such a group keeps
+-- the promises
 pub returns : goal.returns
 returns g c =
-    let sites = c.sites-sites.ensures.value in
     let layout = c.args.layout in
+    let sites = c.sites-sites.ensures.value in
     let is =
     whole _ _ _ _ _
-    (ap (server_from layout.sites) (servers_are (c.made_at.ensures ∙ ap (new_server 0) sites) (c.made_at-2.ensures ∙ ap (new_server 0) sites) (c.made_at-3.ensures ∙ ap (new_server 0) sites) (c.made_at-4.ensures ∙ ap (new_server 0) sites) (c.made_at-5.ensures ∙ ap (new_server 1) sites) (c.made_at-6.ensures ∙ ap (new_server 1) sites) (c.made_at-7.ensures ∙ ap (new_server 1) sites) (c.made_at-8.ensures ∙ ap (new_server 1) sites) (c.made_at-9.ensures ∙ ap (new_server 2) sites) (c.made_at-10.ensures ∙ ap (new_server 2) sites) (c.made_at-11.ensures ∙ ap (new_server 2) sites) (c.made_at-12.ensures ∙ ap (new_server 2) sites) (c.made_at-13.ensures ∙ ap (new_server 3) sites) (c.made_at-14.ensures ∙ ap (new_server 3) sites) (c.made_at-15.ensures ∙ ap (new_server 3) sites) (c.made_at-16.ensures ∙ ap (new_server 3) sites))
-    ∙ at_made layout.sites _ _ _ _ refl refl refl refl)
+    (at_made layout.sites _ _ _ _ _ _ _ _ _ _ _ _ _ _ _ _
+    (λ l. (made sites c.made_at.ensures l, made sites c.made_at-2.ensures l, made sites c.made_at-3.ensures l, made sites c.made_at-4.ensures l))
+    (λ l. (made sites c.made_at-5.ensures l, made sites c.made_at-6.ensures l, made sites c.made_at-7.ensures l, made sites c.made_at-8.ensures l))
+    (λ l. (made sites c.made_at-9.ensures l, made sites c.made_at-10.ensures l, made sites c.made_at-11.ensures l, made sites c.made_at-12.ensures l))
+    (λ l. (made sites c.made_at-13.ensures l, made sites c.made_at-14.ensures l, made sites c.made_at-15.ensures l, made sites c.made_at-16.ensures l)))
     c.new.ensures
     c.new-2.ensures
     in
@@ -30,10 +49,8 @@ returns g c =
           (keeps_promises g.met.K.MarkKind.lawful rule g.met.C.ClockRule.lawful layout.sites layout.partitions c.sites-sites.ensures.bounded);
     }
   where
-    servers_are : {s0 s1 s2 s3 s4 s5 s6 s7 s8 s9 s10 s11 s12 s13 s14 s15 : ServerState} {a b c d : ServerState}
-        → s0 ≡ a → s1 ≡ a → s2 ≡ a → s3 ≡ a → s4 ≡ b → s5 ≡ b → s6 ≡ b → s7 ≡ b → s8 ≡ c → s9 ≡ c → s10 ≡ c → s11 ≡ c → s12 ≡ d → s13 ≡ d → s14 ≡ d → s15 ≡ d
-        → (s0 ∷ s1 ∷ s2 ∷ s3 ∷ s4 ∷ s5 ∷ s6 ∷ s7 ∷ s8 ∷ s9 ∷ s10 ∷ s11 ∷ s12 ∷ s13 ∷ s14 ∷ s15 ∷ []) ≡ quartets a b c d
-    servers_are e0 e1 e2 e3 e4 e5 e6 e7 e8 e9 e10 e11 e12 e13 e14 e15 = cc
+    made : {m all n : ℕ} {t : ServerState} → m ≡ all → (n < m → t ≡ new_server n m) → n < all → t ≡ new_server n all
+    made {m} {all} {n} {t} e new l = subst (λ count. t ≡ new_server n count) e (new (subst (λ count. n < count) (sym e) l))
 
     whole : (sites partitions : ℕ) (server : ℕ → ℕ → ServerState) (sessions : List SessionState) (seats : List (Option SeatState))
         → server ≡ (λ site partition. new_server site sites) → sessions ≡ [] → seats ≡ None ∷ None ∷ None ∷ None ∷ []

@@ -5,7 +5,6 @@ use Rattle.group.specs.Model.Groups.{cuts_at, cuts_of, stable_at}
 use Rattle.group.specs.Parts.{view}
 use Rattle.group.specs.Sessions.{cut_in}
 use Rattle.group.proofs.Cuts.{cut_more, cut_none, seat_of_place}
-use Rattle.group.proofs.Rows.{length_first, rows_lem}
 use Rattle.group.proofs.group_parts.GroupParts.safe_rows.Goals as goal
 use Rattle.group.proofs.group_parts.GroupParts.safe_rows.Goals.{in-Some, in_default}
 
@@ -13,11 +12,7 @@ pub loop-seat-init : goal.loop-seat-init
 loop-seat-init g c =
     let before = view c.args.self.now in
     let site = c.args.site in
-    let rows = c.rows_of-rows.result.items in
-    let stable : rows ≡ stable_at before site =
-    rows_lem _ (λ s. s.marks.stable) (before.server site) before.partitions rows (λ s row given. search rules) c.rows_of-rows.ensures.rows
-    in
-    (ap (λ t. t ++ cuts_at before site) stable, c.rows_of-rows.ensures.few)
+    (ap (λ t. t ++ cuts_at before site) c.stable_rows-rows.ensures.rows, c.stable_rows-rows.ensures.few)
 
 -- an open snapshot is of a session that was opened
 pub cut_of-requires : goal.cut_of-requires

@@ -6,7 +6,6 @@ use Rattle.servers.specs.Servers.{server_raise}
 use Rattle.group.specs.Model.Calls.{has_server}
 use Rattle.group.specs.Parts.{call_server_at, view}
 use Rattle.group.proofs.Views.{by_numbers, on_place, passed}
-use Rattle.group.proofs.Rows.{rows_lem}
 use Rattle.group.proofs.group_parts.GroupParts.stabilise.Goals as goal
 
 pub returns-clause-step : goal.returns-clause-step
@@ -15,14 +14,11 @@ returns-clause-step g c =
     let place = c.in_ok-place.place in
     let k = g.K.MarkKind.kind in
     let site : ℕ × ℕ → ℕ = λ p. p.0 in
-    let is = passed (has_server before c.args.site c.args.partition) (place) (c.args.site, c.args.partition) c.in_ok-place.ensures in
-    let rows =
-    rows_lem _ (λ s. s.marks.reported) (before.server c.place-2.inside.site) before.partitions c.rows_of-rows.result.items (λ s row given. search rules) c.rows_of-rows.ensures.rows
-    in
+    let is = passed (has_server before c.args.site c.args.partition) (place) (c.args.site, c.args.partition) c.in_ok-place.ensures.value in
     let floor =
-    c.common_floor-floor.ensures.value ∙ ap (λ rows. common_floor k rows) c.as_slice.ensures.value ∙ ap (common_floor k) rows ∙ ap (λ n. common_floor k (reported_at before n)) (ap site c.place-2.view_is)
+    c.common_floor-floor.ensures.value ∙ ap (λ rows. common_floor k rows) c.as_slice.ensures.value ∙ ap (common_floor k) c.reported_rows-rows.ensures ∙ ap (λ n. common_floor k (reported_at before n)) (ap site c.place-2.view_is)
     ∙ by_numbers (λ site partition. common_floor k (reported_at before site)) c.args.site c.args.partition place is.1
     in
     ap (λ t. (Ok tt, t)) c.raise.ensures
     ∙ ap (λ (mark : PerSite). call_server_at before place (λ s. (Ok tt, server_raise k s mark))) floor
-    ∙ on_place before c.args.site c.args.partition place (λ s. (Ok tt, server_raise k s (common_floor k (reported_at before c.args.site)))) c.in_ok-place.ensures
+    ∙ on_place before c.args.site c.args.partition place (λ s. (Ok tt, server_raise k s (common_floor k (reported_at before c.args.site)))) c.in_ok-place.ensures.value
