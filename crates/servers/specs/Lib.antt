@@ -5,7 +5,7 @@ pub mod Versions
 pub mod Tables
 pub mod Entries
 pub mod Others
-pub mod PeerRecords
+pub mod Peers
 pub mod Counting
 pub mod Lefts
 pub mod Outboxes

@@ -2,7 +2,7 @@
 ghost use Rattle.std.specs.Prelude.{◌≡◌, ◌+◌, ◌-◌, ◌≤◌, false, length, drop};
 ghost use Rattle.stamps.specs.Rows.{greatest};
 ghost use Rattle.servers.specs.Lefts.{IsOthersOnly};
-ghost use Rattle.servers.specs.PeerRecords.{IsInLayout};
+ghost use Rattle.servers.specs.Peers.{IsInLayout};
 
 use crate::counts::Counts;
 use crate::entry::Entry;

@@ -1,7 +1,7 @@
 //! A site of a layout, and the others.
 ghost use Rattle.std.specs.Prelude.{◌≡◌, ◌<◌, ◌≤◌};
 ghost use Rattle.servers.specs.Others.{is_other};
-ghost use Rattle.servers.specs.PeerRecords.{checked_peers, IsInLayout};
+ghost use Rattle.servers.specs.Peers.{checked_peers, IsInLayout};
 
 use stamps::refusal::Refusal;
 use stamps::site::Site;
@@ -16,7 +16,7 @@ pub struct Peers {
 
 // In clauses they are two numbers.
 impl Model for Peers {
-    ghost use Rattle.servers.specs.PeerRecords.{PeersRecord, IsInLayout};
+    ghost use Rattle.servers.specs.Peers.{PeersRecord, IsInLayout};
 
     ghost Value = { PeersRecord };
 
