@@ -3,18 +3,19 @@ use Rattle.std.proofs.Common.{◌≡◌, ℕ, suc, ◌<◌, ◌≤◌, Bool, tru
 use Rattle.std.proofs.lemmas.List.{append_assoc, append-nil, length-append, length-drop}
 use Rattle.std.proofs.lemmas.Bool.{and_parts, cond_both, cond-false, cond-true, leb-false, ltb-true, or_parts}
 use Rattle.servers.specs.declared.entry.Entry.{Entry}
-use Rattle.servers.specs.Laws.{IsQueue, StaysQueue, Traffic, issue, listed, traffic_after, take, traffic}
+use Rattle.std.specs.Option.{option_to_list}
+use Rattle.servers.specs.Laws.{IsQueue, StaysQueue, Traffic, issue, traffic_after, take, traffic}
 use Rattle.servers.specs.Others.{is_other}
 use Rattle.servers.proofs.RowEntries.{by_site}
 use Rattle.servers.specs.Outboxes.{Queues, first, is_queue_full, issue_entry, is_outbox_full}
 
 -- a queue taken apart
-first_rest : (q : List Entry) → listed (first q) ++ drop 1 q ≡ q
+first_rest : (q : List Entry) → option_to_list (first q) ++ drop 1 q ≡ q
 first_rest [] = refl
 first_rest (e ∷ es) = refl
 
-taken_whole : (t q : List Entry) → (t ++ listed (first q)) ++ drop 1 q ≡ t ++ q
-taken_whole t q = append_assoc t (listed (first q)) (drop 1 q) ∙ ap (λ s. t ++ s) (first_rest q)
+taken_whole : (t q : List Entry) → (t ++ option_to_list (first q)) ++ drop 1 q ≡ t ++ q
+taken_whole t q = append_assoc t (option_to_list (first q)) (drop 1 q) ∙ ap (λ s. t ++ s) (first_rest q)
 
 -- what waits is nothing exactly when all that was issued is taken
 no_length : {A : Type 0} (q : List A) → length q ≡ 0 → q ≡ []
@@ -55,7 +56,7 @@ issue_keeps own sites t e few free h =
     more site other = cond-true (is_other own sites site) (t.queues site ++ e ∷ []) (t.queues site) other
 
 -- what a take leaves for a site, by whether it is the taker
-take_whole : (b : Bool) (t q s : List Entry) → t ++ q ≡ s → cond b (t ++ listed (first q)) t ++ cond b (drop 1 q) q ≡ s
+take_whole : (b : Bool) (t q s : List Entry) → t ++ q ≡ s → cond b (t ++ option_to_list (first q)) t ++ cond b (drop 1 q) q ≡ s
 take_whole true t q s e = taken_whole t q ∙ e
 take_whole false t q s e = e
 

@@ -1,5 +1,6 @@
 -- Laws of one server, in the words of the subject.
 use Rattle.std.specs.Prelude.{◌≡◌, ℕ, ◌+◌, ◌^◌, ◌<◌, ◌≤◌, Bool, true, false, if◌then◌else◌, ◌⊎◌, List, [], ◌∷◌, ◌++◌, length, Some, None, Ok, Err, Option, Result, ◌==◌}
+use Rattle.std.specs.Option.{option_to_list}
 use Rattle.stamps.specs.declared.refusal.Refusal.{Refusal}
 use Rattle.stamps.specs.Kinds.{Kind}
 use Rattle.stamps.specs.Rows.{PerSite, HasStamps}
@@ -33,17 +34,20 @@ Passes test key v = (v.key ≡ key) × (test v ≡ true)
 -- held passes.
 abbrev pub IsLatest : (Version → Bool) → ℕ → List Version → Option Version → Type 0
 IsLatest test key vs None = (v : Version) → IsIn v vs → Passes test key v → ⊥
-IsLatest test key vs (Some b) = IsIn b vs × Passes test key b × ((v : Version) → IsIn v vs → Passes test key v → IsAsLateVersion b v)
+IsLatest test key vs (Some b) =
+    IsIn b vs × Passes test key b × ((v : Version) → IsIn v vs → Passes test key v → IsAsLateVersion b v)
 
 -- Tidying under a safe mark.
 pub record IsTidied (k : Kind) (safe : PerSite) (before after : List Version) (count : ℕ) : Type 0 where
   -- nothing comes in
   pub held : (v : Version) → IsIn v after → IsIn v before
   -- what is older than a version of its key that the safe mark covers is dropped
-  pub gone : (v w : Version) → IsIn w before → w.key ≡ v.key → is_covered k safe w ≡ true → IsLaterVersion w v → IsIn v after → ⊥
+  pub gone : (v w : Version) → IsIn w before → w.key ≡ v.key → is_covered k safe w ≡ true → IsLaterVersion w v
+      → IsIn v after → ⊥
   -- what is dropped is older than such a version that stays; so the latest of these stays, and all that is not older
   pub drops : (v : Version) → IsIn v before
-      → IsIn v after ⊎ ((w : Version) × IsIn w after × (w.key ≡ v.key) × (is_covered k safe w ≡ true) × IsLaterVersion w v)
+      → IsIn v after
+      ⊎ ((w : Version) × IsIn w after × (w.key ≡ v.key) × (is_covered k safe w ≡ true) × IsLaterVersion w v)
   pub counts : length after + count ≡ length before
 
 -- A stamp that a server answers is above its last one.
@@ -62,16 +66,18 @@ pub record Traffic : Type 0 where
   pub sent : List Entry
   pub taken : ℕ → List Entry
 
-abbrev pub listed : {A : Type 0} → Option A → List A
-listed None = []
-listed (Some x) = x ∷ []
-
 -- with an outbox that is full nothing is issued
 abbrev pub traffic_after : ℕ → ℕ → Traffic → Move → Traffic
 traffic_after own sites t (issue e) =
-    if is_outbox_full own sites t.queues then t else record { queues = issue_entry own sites t.queues e; sent = t.sent ++ e ∷ []; taken = t.taken }
+    if is_outbox_full own sites t.queues
+    then t
+    else record { queues = issue_entry own sites t.queues e; sent = t.sent ++ e ∷ []; taken = t.taken }
 traffic_after own sites t (take site) =
-    record { queues = take_entry t.queues site; sent = t.sent; taken = λ i. if i == site then t.taken i ++ listed (first (t.queues i)) else t.taken i }
+    record {
+      queues = take_entry t.queues site;
+      sent = t.sent;
+      taken = λ i. if i == site then t.taken i ++ option_to_list (first (t.queues i)) else t.taken i;
+    }
 
 abbrev pub traffic : ℕ → ℕ → List Move → Traffic
 traffic own sites [] = record { queues = empty_queues; sent = []; taken = λ i. [] }
@@ -128,7 +134,9 @@ run_with_stamp l (Err why) after = run_without_stamp l after
 abbrev pub run_after : Rule → Kind → ServerRun → ServerCall → ServerRun
 run_after rule k l (tell time) = run_without_stamp l (server_tell l.server time).1
 run_after rule k l beat = let r = server_heartbeat rule l.server in run_with_stamp l r.0 r.1
-run_after rule k l (put key value depends knows) = let r = server_put rule k l.server key value depends knows in run_with_stamp l (stamp_answered r.0) r.1
+run_after rule k l (put key value depends knows) =
+    let r = server_put rule k l.server key value depends knows in
+    run_with_stamp l (stamp_answered r.0) r.1
 run_after rule k l (take_from from e) = run_without_stamp l (server_take l.server from e).1
 run_after rule k l (hand_over site) = run_without_stamp l (server_hand_over l.server site)
 run_after rule k l report = run_without_stamp l (server_report k l.server)
@@ -154,4 +162,5 @@ IsRising (s ∷ ss) = (newest ss < s) × (s < 2 ^ 63) × IsRising ss
 abbrev pub StampsRise : Rule → Kind → ℕ → ℕ → Type 0
 StampsRise rule k site sites =
     (calls : List ServerCall) → ((c : ServerCall) → IsIn c calls → HasStampMarks c)
-    → IsRising (server_run rule k site sites calls).made × (last_of (server_run rule k site sites calls).server ≡ newest (server_run rule k site sites calls).made)
+    → let run = server_run rule k site sites calls in
+    IsRising run.made × (last_of run.server ≡ newest run.made)

@@ -24,7 +24,9 @@ abbrev pub is_queue_full : ℕ → ℕ → Queues → ℕ → Bool
 is_queue_full own sites w site = is_other own sites site && nat_le 16 (length (w site))
 
 abbrev pub is_outbox_full : ℕ → ℕ → Queues → Bool
-is_outbox_full own sites w = is_queue_full own sites w 0 || (is_queue_full own sites w 1 || (is_queue_full own sites w 2 || is_queue_full own sites w 3))
+is_outbox_full own sites w =
+    is_queue_full own sites w 0
+    || (is_queue_full own sites w 1 || (is_queue_full own sites w 2 || is_queue_full own sites w 3))
 
 -- one entry more for every other site
 abbrev pub issue_entry : ℕ → ℕ → Queues → Entry → Queues

@@ -66,7 +66,13 @@ abbrev pub first_entry : ℕ → ℕ → ℕ
 first_entry sites site = if nat_lt site sites then 0 else top_stamp
 
 abbrev pub first_received : ℕ → PerSite
-first_received sites = record { site0 = first_entry sites 0; site1 = first_entry sites 1; site2 = first_entry sites 2; site3 = first_entry sites 3 }
+first_received sites =
+    record {
+      site0 = first_entry sites 0;
+      site1 = first_entry sites 1;
+      site2 = first_entry sites 2;
+      site3 = first_entry sites 3;
+    }
 
 abbrev pub new_server : ℕ → ℕ → ServerState
 new_server site sites =
@@ -112,7 +118,10 @@ server_heartbeat_with s (Err why) = (Err why, s)
 server_heartbeat_with s (Ok stamp) = (Ok stamp, server_issue s (Heartbeat stamp))
 
 abbrev pub server_heartbeat : Rule → ServerState → Result ℕ Refusal × ServerState
-server_heartbeat rule s = if is_outbox_full s.site s.sites s.waiting then (Err OutboxFull, s) else server_heartbeat_with s (rule (last_of s) s.reading 0)
+server_heartbeat rule s =
+    if is_outbox_full s.site s.sites s.waiting
+    then (Err OutboxFull, s)
+    else server_heartbeat_with s (rule (last_of s) s.reading 0)
 
 -- the time of the last stamp less the reading
 abbrev pub lead_of : ServerState → ℤ
@@ -128,14 +137,16 @@ server_report k s = with_marks s (record s.marks { reported = k.floor s.marks.re
 
 -- put: the version that is made
 abbrev pub put_version : ServerState → ℕ → Value → PerSite → ℕ → Version
-put_version s key value depends stamp = record { key = key; value = value; stamp = stamp; source = s.site; mark = depends }
+put_version s key value depends stamp =
+    record { key = key; value = value; stamp = stamp; source = s.site; mark = depends }
 
 -- the version is kept, at the end
 abbrev pub server_keep : ServerState → Version → ServerState
 server_keep s v = record s { held = s.held ++ v ∷ [] }
 
 -- with a stamp, the version is kept, issued and answered, and the stable mark is raised by what the session knows
-abbrev pub server_put_with : Kind → ServerState → ℕ → Value → PerSite → PerSite → Result ℕ Refusal → Result Version Refusal × ServerState
+abbrev pub server_put_with : Kind → ServerState → ℕ → Value → PerSite → PerSite → Result ℕ Refusal
+    → Result Version Refusal × ServerState
 server_put_with k s key value depends knows (Err why) = (Err why, s)
 server_put_with k s key value depends knows (Ok stamp) =
     let v = put_version s key value depends stamp in
@@ -145,7 +156,9 @@ server_put_with k s key value depends knows (Ok stamp) =
 -- entry of what the session depends on
 abbrev pub server_put : Rule → Kind → ServerState → ℕ → Value → PerSite → PerSite → Result Version Refusal × ServerState
 server_put rule k s key value depends knows =
-    if is_table_full s.held then (Err TableFull, s) else if is_outbox_full s.site s.sites s.waiting then (Err OutboxFull, s) else server_put_with k s key value depends knows (rule (last_of s) s.reading (greatest depends))
+    if is_table_full s.held then (Err TableFull, s)
+    else if is_outbox_full s.site s.sites s.waiting then (Err OutboxFull, s)
+    else server_put_with k s key value depends knows (rule (last_of s) s.reading (greatest depends))
 
 -- an entry of this stamp was taken from a site
 abbrev pub server_receive : ServerState → ℕ → ℕ → ServerState
@@ -154,7 +167,8 @@ server_receive s from stamp = with_marks s (with_received s.marks from stamp)
 -- an entry of another site of the layout is taken: a full table refuses an update
 abbrev pub server_take_other : ServerState → ℕ → Entry → Result (Unit {0}) Refusal × ServerState
 server_take_other s from (Heartbeat stamp) = (Ok tt, server_receive s from stamp)
-server_take_other s from (Update v) = if is_table_full s.held then (Err TableFull, s) else (Ok tt, server_receive (server_keep s v) from v.stamp)
+server_take_other s from (Update v) =
+    if is_table_full s.held then (Err TableFull, s) else (Ok tt, server_receive (server_keep s v) from v.stamp)
 
 -- take: an entry of any other origin is refused before anything else
 abbrev pub server_take : ServerState → ℕ → Entry → Result (Unit {0}) Refusal × ServerState

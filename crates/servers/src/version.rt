@@ -9,8 +9,8 @@ use stamps::row::Row;
 use stamps::site::Site;
 use stamps::stamp::Stamp;
 
-/// A version: a value of a key with its stamp and its source, the site of the put. Its mark, kept as its row, stands for
-/// what the writer depended on.
+/// A version: a value of a key with its stamp and its source, the site of the put.
+// The mark, kept as its row, stands for what the writer depended on.
 #[derive(Clone, Copy, Default)]
 pub struct Version {
     pub(crate) key: u16,

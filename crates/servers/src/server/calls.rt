@@ -19,7 +19,11 @@ use stamps::site::Site;
 use stamps::stamp::Stamp;
 
 impl<C: ClockRule, K: MarkKind> Server<C, K> {
-    // The physical clock shows a new time, which must not be behind the present one.
+    /// The physical clock shows a new time.
+    ///
+    /// # Errors
+    ///
+    /// `Unlawful` from 2^47 on, and then `ReadingBehind` below the present reading.
     pub fn tell(&mut self, time: u64) -> Result<(), Refusal>
         ensures step { (result, view self.new) ≡ server_tell (view self.old) time }
         ensures keeps { RefusalKeeps result (view self.old) (view self.new) }
@@ -32,7 +36,11 @@ impl<C: ClockRule, K: MarkKind> Server<C, K> {
         Ok(())
     }
 
-    // A new stamp for the other sites, with nothing written.
+    /// A new stamp for the other sites, with nothing written.
+    ///
+    /// # Errors
+    ///
+    /// `OutboxFull` while some other site has 16 entries still to take, and then as the clock rule refuses.
     pub fn heartbeat(&mut self) -> Result<Stamp, Refusal>
         ensures step { (result, view self.new) ≡ server_heartbeat C.ClockRule.answer (view self.old) }
         ensures rises { IsAbove (last_of (view self.old)) result }
@@ -47,8 +55,13 @@ impl<C: ClockRule, K: MarkKind> Server<C, K> {
         Ok(stamp.into())
     }
 
-    // A new version, stamped, kept and issued to the other sites. Its mark is what the session depends on; the stable
-    // mark is raised by what the session knows.
+    /// A new version, stamped, kept and issued to the other sites. Its mark is what the session depends on; the stable
+    /// mark is raised by what the session knows.
+    ///
+    /// # Errors
+    ///
+    /// `TableFull` while 32 versions are held, then `OutboxFull` while some other site has 16 entries still to take, and
+    /// then as the clock rule refuses.
     pub fn put(
         &mut self,
         key: u16,
@@ -56,7 +69,9 @@ impl<C: ClockRule, K: MarkKind> Server<C, K> {
         depends: K::Mark,
         knows: K::Mark,
     ) -> Result<Version, Refusal>
-        ensures step { (result, view self.new) ≡ server_put C.ClockRule.answer K.MarkKind.kind (view self.old) key value (K.MarkKind.meaning depends) (K.MarkKind.meaning knows) }
+        ensures step { (result, view self.new)
+            ≡ server_put C.ClockRule.answer K.MarkKind.kind (view self.old) key value
+            (K.MarkKind.meaning depends) (K.MarkKind.meaning knows) }
         ensures rises { IsAbove (last_of (view self.old)) (stamp_answered result) }
         ensures keeps { RefusalKeeps result (view self.old) (view self.new) }
     {
@@ -95,21 +110,25 @@ impl<C: ClockRule, K: MarkKind> Server<C, K> {
         )
     }
 
-    // The next entry that a site has still to take from this server.
+    /// The next entry that a site has still to take from this server.
     pub fn next_for(&self, site: Site) -> Option<Entry>
         ensures { result ≡ next_for (view self.now).waiting site }
     {
         self.outbox.next_for(site)
     }
 
-    // A site has taken its next entry.
+    /// A site has taken its next entry.
     pub fn hand_over(&mut self, site: Site)
         ensures { view self.new ≡ server_hand_over (view self.old) site }
     {
         self.outbox.take(site);
     }
 
-    // Takes an entry of another site's server; one of any other origin is refused.
+    /// Takes an entry of another site's server.
+    ///
+    /// # Errors
+    ///
+    /// `NotInLayout` if `from` is no other site of the layout, and then `TableFull` for a version while 32 are held.
     pub fn take(&mut self, from: Site, entry: Entry) -> Result<(), Refusal>
         ensures step { (result, view self.new) ≡ server_take (view self.old) from entry }
         ensures keeps { RefusalKeeps result (view self.old) (view self.new) }
@@ -135,7 +154,7 @@ impl<C: ClockRule, K: MarkKind> Server<C, K> {
         Ok(())
     }
 
-    // How far the last stamp's time is ahead of the reading.
+    /// How far the time of the last stamp is ahead of the reading; below 0 where it is behind.
     pub fn lead(&self) -> i64
         ensures { result ≡ lead_of (view self.now) }
     {

@@ -23,7 +23,6 @@ impl<C: ClockRule, K: MarkKind> Server<C, K> {
         ensures queues { StaysQueue peers.own peers.sites }
         ensures rising { StampsRise C.ClockRule.answer K.MarkKind.kind peers.own peers.sites }
     {
-        stamps_rise::<C, K>(peers);
         let zero = Row::same(Stamp::zero());
         Server {
             reading: Reading::zero(),
@@ -36,13 +35,6 @@ impl<C: ClockRule, K: MarkKind> Server<C, K> {
             kind: PhantomData,
         }
     }
-}
-
-// The law that a server's own stamps rise, under every clock rule and kind of mark. It has no code.
-fn stamps_rise<C: ClockRule, K: MarkKind>(peers: Peers)
-    ensures { StampsRise C.ClockRule.answer K.MarkKind.kind peers.own peers.sites }
-{
-    let _ = peers.own();
 }
 
 // What was received before anything was taken.

@@ -30,7 +30,8 @@ impl<C: ClockRule, K: MarkKind> Server<C, K> {
     pub fn latest_visible(&self, key: u16) -> Option<usize>
         ensures value { version_at (view self.now).held result ≡ latest_visible K.MarkKind.kind (view self.now) key }
         ensures within { IfSome result (λ index. index < length (view self.now).held) }
-        ensures law { IsLatest (sees K.MarkKind.kind (view self.now)) key (view self.now).held (version_at (view self.now).held result) }
+        ensures law { IsLatest (sees K.MarkKind.kind (view self.now)) key
+            (view self.now).held (version_at (view self.now).held result) }
     {
         let test = Visible::<K> {
             site: self.outbox.own(),
@@ -41,9 +42,11 @@ impl<C: ClockRule, K: MarkKind> Server<C, K> {
 
     /// Where among the versions held the latest one of a key stands that a cut covers.
     pub fn latest_covered(&self, key: u16, cut: K::Mark) -> Option<usize>
-        ensures value { version_at (view self.now).held result ≡ latest_covered K.MarkKind.kind (view self.now) key (K.MarkKind.meaning cut) }
+        ensures value { version_at (view self.now).held result
+            ≡ latest_covered K.MarkKind.kind (view self.now) key (K.MarkKind.meaning cut) }
         ensures within { IfSome result (λ index. index < length (view self.now).held) }
-        ensures law { IsLatest (is_covered K.MarkKind.kind (K.MarkKind.meaning cut)) key (view self.now).held (version_at (view self.now).held result) }
+        ensures law { IsLatest (is_covered K.MarkKind.kind (K.MarkKind.meaning cut)) key
+            (view self.now).held (version_at (view self.now).held result) }
     {
         let test = Covered::<K> { cut };
         self.table.latest(key, &test)

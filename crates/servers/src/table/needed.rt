@@ -15,7 +15,8 @@ pub(crate) struct Needed<'a, K: MarkKind> {
 impl<'a, K: MarkKind> Needed<'a, K> {
     // Whether a version of the table replaces the item.
     pub(crate) fn is_outdated(&self, item: &Version) -> bool
-        ensures { result ≡ is_outdated K.MarkKind.kind (K.MarkKind.meaning self.now.safe) self.now.versions.now item.now }
+        ensures { result
+            ≡ is_outdated K.MarkKind.kind (K.MarkKind.meaning self.now.safe) self.now.versions.now item.now }
     {
         self.versions.iter().any(|other| self.replaces(other, item))
     }
