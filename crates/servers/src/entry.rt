@@ -6,7 +6,7 @@ use crate::version::Version;
 use stamps::issued_stamp::IssuedStamp;
 
 /// An entry of an outbox.
-#[derive(Clone, Copy)]
+#[derive(Clone, Copy, Debug)]
 pub enum Entry {
     /// A version that was put.
     Update(Version),
