@@ -1,5 +1,4 @@
 pub mod CheckedPercents
-pub mod Keeping
 pub mod Latest
 pub mod Queues
 pub mod Rising

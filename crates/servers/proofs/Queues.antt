@@ -5,10 +5,8 @@ use Rattle.std.proofs.lemmas.List.{drop_all, drop-append-le, drop-drop, drop_mor
 use Rattle.std.proofs.lemmas.Bool.{cases_Bool, cond_both, cond-false, cond-true, eqb-false, eqb-true, le-ltb, lt-ltb, ne_eqb, true≢false}
 use Rattle.std.proofs.lemmas.Bool.Decides.{nat_tests}
 use Rattle.stamps.specs.Rows.{PerSite, at, greatest, with_entry}
-use Rattle.servers.specs.Counting.{one_more}
 use Rattle.servers.specs.declared.entry.Entry.{Entry}
-use Rattle.servers.specs.Lefts.{IsOthersOnly}
-use Rattle.servers.specs.Others.{is_other}
+use Rattle.servers.specs.Others.{IsOthersOnly, is_other, one_more}
 use Rattle.servers.proofs.RowEntries.{at_other, at_same, by_site}
 use Rattle.servers.specs.Outboxes.{first, issue_entry, last_for, next_for, is_outbox_full, take_entry}
 
@@ -75,19 +73,16 @@ past_other own sites n h = grind (arith, nat_tests)
 past_last : (es : List Entry) (left : PerSite) (n : ℕ) → last_for es left (suc (suc (suc (suc n)))) ≡ []
 past_last es left n = cond-false (ltb (suc (suc (suc (suc n)))) 4) (drop (length es - at left (suc (suc (suc (suc n))))) es) [] (le-ltb (suc (suc (suc (suc n)))) 4 (omega arith))
 
-issue_is : (own sites : ℕ) (es : List Entry) (e : Entry) (left left' : PerSite) → sites ≤ 4 → IsOthersOnly own sites left → greatest left ≡ length es
-    → left'.site0 ≡ left.site0 + cond (is_other own sites 0) 1 0
-    → left'.site1 ≡ left.site1 + cond (is_other own sites 1) 1 0
-    → left'.site2 ≡ left.site2 + cond (is_other own sites 2) 1 0
-    → left'.site3 ≡ left.site3 + cond (is_other own sites 3) 1 0
-    → last_for (es ++ e ∷ []) left' ≡ issue_entry own sites (last_for es left) e
-issue_is own sites es e left left' few others needed a b c d =
-    fun_ext (by_site (λ i. last_for (es ++ e ∷ []) left' i ≡ issue_entry own sites (last_for es left) e i)
-    (push_for (is_other own sites 0) es e left.site0 left'.site0 (omega arith) others.0 a)
-    (push_for (is_other own sites 1) es e left.site1 left'.site1 (omega arith) others.1 b)
-    (push_for (is_other own sites 2) es e left.site2 left'.site2 (omega arith) others.2 c)
-    (push_for (is_other own sites 3) es e left.site3 left'.site3 (omega arith) others.3 d)
-    (λ n. past_last (es ++ e ∷ []) left' n ∙ sym (cond-false _ (last_for es left (suc (suc (suc (suc n)))) ++ e ∷ []) (last_for es left (suc (suc (suc (suc n))))) (past_other own sites n few) ∙ past_last es left n)))
+-- after an issue, each site that takes it has one more
+pub issue_queues : (own sites : ℕ) (es : List Entry) (e : Entry) (left : PerSite) → sites ≤ 4 → IsOthersOnly own sites left → greatest left ≡ length es
+    → last_for (es ++ e ∷ []) (one_more own sites left) ≡ issue_entry own sites (last_for es left) e
+issue_queues own sites es e left few others needed =
+    fun_ext (by_site (λ i. last_for (es ++ e ∷ []) (one_more own sites left) i ≡ issue_entry own sites (last_for es left) e i)
+    (push_for (is_other own sites 0) es e left.site0 _ (omega arith) others.0 refl)
+    (push_for (is_other own sites 1) es e left.site1 _ (omega arith) others.1 refl)
+    (push_for (is_other own sites 2) es e left.site2 _ (omega arith) others.2 refl)
+    (push_for (is_other own sites 3) es e left.site3 _ (omega arith) others.3 refl)
+    (λ n. past_last (es ++ e ∷ []) (one_more own sites left) n ∙ sym (cond-false _ (last_for es left (suc (suc (suc (suc n)))) ++ e ∷ []) (last_for es left (suc (suc (suc (suc n))))) (past_other own sites n few) ∙ past_last es left n)))
 
 -- the counts after an issue: sites that take nothing still have none, and the longest queue is one longer
 grown : (o : Bool) (l l' : ℕ) → (o ≡ false → l ≡ 0) → l' ≡ l + cond o 1 0 → o ≡ false → l' ≡ 0
@@ -97,22 +92,17 @@ grown false l l' none is z = let k = none refl in omega arith
 some_other : (own sites : ℕ) → 2 ≤ sites → (is_other own sites 0 || is_other own sites 1) ≡ true
 some_other own sites h = grind (arith, nat_tests)
 
-longest : (p q r s : Bool) (left left' : PerSite) (n : ℕ) → (p || q) ≡ true
+longest : (p q r s : Bool) (left : PerSite) (n : ℕ) → (p || q) ≡ true
     → (p ≡ false → left.site0 ≡ 0) × (q ≡ false → left.site1 ≡ 0) × (r ≡ false → left.site2 ≡ 0) × (s ≡ false → left.site3 ≡ 0)
     → greatest left ≡ n
-    → left'.site0 ≡ left.site0 + cond p 1 0 → left'.site1 ≡ left.site1 + cond q 1 0 → left'.site2 ≡ left.site2 + cond r 1 0 → left'.site3 ≡ left.site3 + cond s 1 0
-    → greatest left' ≡ n + 1
-longest p q r s left left' n o z e a b c d = grind (arith, cases_Bool p, cases_Bool q, cases_Bool r, cases_Bool s)
+    → greatest (record { site0 = left.site0 + cond p 1 0; site1 = left.site1 + cond q 1 0; site2 = left.site2 + cond r 1 0; site3 = left.site3 + cond s 1 0 }) ≡ n + 1
+longest p q r s left n o z e = grind (arith, cases_Bool p, cases_Bool q, cases_Bool r, cases_Bool s)
 
-issue_left : (own sites : ℕ) (left left' : PerSite) (n : ℕ) → 2 ≤ sites → IsOthersOnly own sites left → greatest left ≡ n
-    → left'.site0 ≡ left.site0 + cond (is_other own sites 0) 1 0
-    → left'.site1 ≡ left.site1 + cond (is_other own sites 1) 1 0
-    → left'.site2 ≡ left.site2 + cond (is_other own sites 2) 1 0
-    → left'.site3 ≡ left.site3 + cond (is_other own sites 3) 1 0
-    → IsOthersOnly own sites left' × (greatest left' ≡ n + 1)
-issue_left own sites left left' n some others needed a b c d = (
-  (grown (is_other own sites 0) left.site0 left'.site0 others.0 a, grown (is_other own sites 1) left.site1 left'.site1 others.1 b, grown (is_other own sites 2) left.site2 left'.site2 others.2 c, grown (is_other own sites 3) left.site3 left'.site3 others.3 d),
-  longest (is_other own sites 0) (is_other own sites 1) (is_other own sites 2) (is_other own sites 3) left left' n (some_other own sites some) others needed a b c d,
+pub issue_counts : (own sites : ℕ) (left : PerSite) (n : ℕ) → 2 ≤ sites → IsOthersOnly own sites left → greatest left ≡ n
+    → IsOthersOnly own sites (one_more own sites left) × (greatest (one_more own sites left) ≡ n + 1)
+issue_counts own sites left n some others needed = (
+  (grown (is_other own sites 0) left.site0 _ others.0 refl, grown (is_other own sites 1) left.site1 _ others.1 refl, grown (is_other own sites 2) left.site2 _ others.2 refl, grown (is_other own sites 3) left.site3 _ others.3 refl),
+  longest (is_other own sites 0) (is_other own sites 1) (is_other own sites 2) (is_other own sites 3) left n (some_other own sites some) others needed,
 )
 
 -- after a take: one fewer for the taker
@@ -151,15 +141,6 @@ next_none es left i h z = sym (ap first (last_at es left i h ∙ last_none es (a
 
 pub next_some : (es : List Entry) (left : PerSite) (i : ℕ) (d : Entry) → i < 4 → 0 < at left i → at left i ≤ length es → Some (get_or es (length es - at left i) d) ≡ next_for (last_for es left) i
 next_some es left i d h some within = sym (ap first (last_at es left i h) ∙ last_first es (at left i) d some within)
-
--- after an issue
-pub issue_queues : (own sites : ℕ) (es : List Entry) (e : Entry) (left : PerSite) → sites ≤ 4 → IsOthersOnly own sites left → greatest left ≡ length es
-    → last_for (es ++ e ∷ []) (one_more own sites left) ≡ issue_entry own sites (last_for es left) e
-issue_queues own sites es e left few others needed = issue_is own sites es e left (one_more own sites left) few others needed refl refl refl refl
-
-pub issue_counts : (own sites : ℕ) (left : PerSite) (n : ℕ) → 2 ≤ sites → IsOthersOnly own sites left → greatest left ≡ n
-    → IsOthersOnly own sites (one_more own sites left) × (greatest (one_more own sites left) ≡ n + 1)
-issue_counts own sites left n some others needed = issue_left own sites left (one_more own sites left) n some others needed refl refl refl refl
 
 -- after a take
 abbrev pub fewer : PerSite → ℕ → PerSite

@@ -1,13 +1,13 @@
 -- Tidying keeps what has to stay, and drops only what a version that stays stands in for.
 use Rattle.std.proofs.Common.{◌≡◌, Bool, true, false, cond, not, ◌&&◌, eqb, ◌⊎◌, List, [], ◌∷◌, Some, None, Option, sym, refl, ap, ◌∙◌, subst, inl, inr, ⊎_elim, arith, filter}
 use Rattle.std.proofs.lemmas.Bool.{and_from, and_parts, cases_Bool, eq-eqb, eqb-true, false≢true, or_cases, or_left, or_right}
+use Rattle.std.proofs.lemmas.List.Filters.{length-filter_both}
 use Rattle.stamps.specs.Kinds.{Kind}
 use Rattle.stamps.specs.Rows.{PerSite}
 use Rattle.servers.specs.Versions.{is_later}
 use Rattle.servers.specs.declared.version.Version.{Version}
 use Rattle.servers.specs.Tables.{is_covered, latest, is_outdated, is_outdated_by, versions_kept, table_tidy}
 use Rattle.servers.specs.Laws.{IsAsLateVersion, IsIn, IsLatest, IsTidied, IsLaterVersion}
-use Rattle.servers.proofs.Keeping.{kept_length}
 use Rattle.servers.proofs.Latest.{as_late_later, latest_law, later_from, later_gives, not_both}
 
 pub kept_held : {A : Type 0} (p : A → Bool) (xs : List A) (x : A) → IsIn x (filter p xs) → IsIn x xs
@@ -84,5 +84,5 @@ module _ (k : Kind) (safe : PerSite) where
             (λ e. let r = outdated_gives vs v e in let m = replaced vs v r.0 r.1 r.2 (latest (is_covered k safe) v.key vs) (latest_law (is_covered k safe) v.key vs) in inr (m.0, m.1, m.2.0, m.2.1, m.2.2))
             (λ e. inl (kept_stays (λ u. not (is_outdated k safe vs u)) vs v i (ap not e)))
             (cases_Bool (is_outdated k safe vs v));
-        counts = let l = kept_length (λ u. not (is_outdated k safe vs u)) vs in omega arith;
+        counts = let l = length-filter_both (is_outdated k safe vs) (λ u. not (is_outdated k safe vs u)) (λ _. refl) vs in omega arith;
       }

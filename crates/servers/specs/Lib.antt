@@ -6,8 +6,6 @@ pub mod Tables
 pub mod Entries
 pub mod Others
 pub mod Peers
-pub mod Counting
-pub mod Lefts
 pub mod Outboxes
 pub mod Servers
 pub mod Laws

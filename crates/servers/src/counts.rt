@@ -1,7 +1,7 @@
 //! A count for each site number. No generic type with `Row`, whose entries are stamps by its invariant.
 ghost use Rattle.std.specs.Prelude.{◌≡◌, ◌-◌, ◌<◌};
 ghost use Rattle.stamps.specs.Rows.{at, same, greatest, with_entry};
-ghost use Rattle.servers.specs.Counting.{one_more};
+ghost use Rattle.servers.specs.Others.{one_more};
 
 use crate::peers::Peers;
 use stamps::site::Site;

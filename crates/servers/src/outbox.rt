@@ -1,7 +1,7 @@
 //! The entries that other sites have still to take, in order of issue.
 ghost use Rattle.std.specs.Prelude.{◌≡◌, ◌+◌, ◌-◌, ◌≤◌, false, length, drop};
 ghost use Rattle.stamps.specs.Rows.{greatest};
-ghost use Rattle.servers.specs.Lefts.{IsOthersOnly};
+ghost use Rattle.servers.specs.Others.{IsOthersOnly};
 ghost use Rattle.servers.specs.Peers.{IsInLayout};
 
 use crate::counts::Counts;

@@ -2,7 +2,7 @@ use Rattle.std.proofs.Common.{[], ◌∷◌, ◌++◌, length, sym, refl, ap, �
 use Rattle.std.proofs.lemmas.List.{length-append}
 use Rattle.std.proofs.lemmas.Bool.{leb-false}
 use Rattle.stamps.specs.Rows.{greatest}
-use Rattle.servers.specs.Lefts.{IsOthersOnly}
+use Rattle.servers.specs.Others.{IsOthersOnly}
 use Rattle.servers.specs.Outboxes.{last_for}
 use Rattle.servers.proofs.Queues.{issue_queues, issue_counts, full_is}
 use Rattle.servers.proofs.outbox.Outbox.issue.Goals as goal

@@ -1,7 +1,7 @@
 use Rattle.std.proofs.Common.{◌≡◌, ◌-◌, ◌≤◌, length, drop, sym, refl, ap, ◌∙◌, subst, arith}
 use Rattle.std.proofs.lemmas.List.{length-drop}
 use Rattle.stamps.specs.Rows.{greatest}
-use Rattle.servers.specs.Lefts.{IsOthersOnly}
+use Rattle.servers.specs.Others.{IsOthersOnly}
 use Rattle.servers.specs.Outboxes.{last_for}
 use Rattle.servers.proofs.Queues.{fewer_counts, kept_queues, take_queues}
 use Rattle.servers.proofs.outbox.Outbox.take.Goals as goal
