@@ -6,7 +6,7 @@ use crate::version::Version;
 use stamps::issued_stamp::IssuedStamp;
 
 /// An entry of an outbox.
-#[derive(Clone, Copy, Debug)]
+#[derive(Clone, Copy, Debug, PartialEq, Eq, Hash)]
 pub enum Entry {
     /// A version that was put.
     Update(Version),

@@ -8,7 +8,7 @@ use stamps::site::Site;
 use std::marker::Model;
 
 /// A site of a layout of 2 to 4 sites, with how many sites the layout has.
-#[derive(Clone, Copy, Debug)]
+#[derive(Clone, Copy, Debug, PartialEq, Eq, Hash)]
 pub struct Peers {
     own: Site,
     sites: u8,

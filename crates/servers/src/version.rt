@@ -11,7 +11,7 @@ use stamps::stamp::Stamp;
 
 /// A version: a value of a key with its stamp and its source, the site of the put.
 // The mark, kept as its row, stands for what the writer depended on.
-#[derive(Clone, Copy, Debug, Default)]
+#[derive(Clone, Copy, Debug, Default, PartialEq, Eq, Hash)]
 pub struct Version {
     pub(crate) key: u16,
     pub(crate) value: Value,

@@ -8,7 +8,7 @@ use std::marker::Model;
 ///
 /// The default is the least one, 0.1, for unused places of tables.
 // It is kept as the stamp before it: so the default is all zero bits, and a table of them is cleared at once.
-#[derive(Clone, Copy, Debug, Default)]
+#[derive(Clone, Copy, Debug, Default, PartialEq, Eq, Hash)]
 pub struct IssuedStamp {
     before: u64,
 }
