@@ -66,7 +66,8 @@ impl Outbox {
     // One entry more for every other site.
     pub(crate) fn issue(&mut self, entry: Entry)
         requires { is_outbox_full self.old.peers.own self.old.peers.sites (queues_of self.old) ≡ false }
-        ensures queues { queues_of self.new ≡ issue_entry self.old.peers.own self.old.peers.sites (queues_of self.old) entry }
+        ensures queues { queues_of self.new
+            ≡ issue_entry self.old.peers.own self.old.peers.sites (queues_of self.old) entry }
         ensures peers { self.new.peers ≡ self.old.peers }
     {
         self.left = self.left.one_more(self.peers);

@@ -47,7 +47,8 @@ impl VersionTable {
     pub(crate) fn tidy<K: MarkKind>(&mut self, safe: K::Mark) -> usize
         ensures step { (result, versions_of self.new)
             ≡ table_tidy K.MarkKind.kind (K.MarkKind.meaning safe) (versions_of self.old) }
-        ensures law { IsTidied K.MarkKind.kind (K.MarkKind.meaning safe) (versions_of self.old) (versions_of self.new) result }
+        ensures law { IsTidied K.MarkKind.kind (K.MarkKind.meaning safe)
+            (versions_of self.old) (versions_of self.new) result }
     {
         let mut before = ArrayVec::new();
         append(&mut before, self.versions.as_slice());

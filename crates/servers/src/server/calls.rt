@@ -60,8 +60,8 @@ impl<C: ClockRule, K: MarkKind> Server<C, K> {
     ///
     /// # Errors
     ///
-    /// `TableFull` while 32 versions are held, then `OutboxFull` while some other site has 16 entries still to take, and
-    /// then as the clock rule refuses.
+    /// `TableFull` while 32 versions are held, then `OutboxFull` while some other site has 16 entries still to take,
+    /// and then as the clock rule refuses.
     pub fn put(
         &mut self,
         key: u16,

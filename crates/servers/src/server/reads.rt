@@ -55,7 +55,8 @@ impl<C: ClockRule, K: MarkKind> Server<C, K> {
     /// Drops the versions that are not needed any more under the safe mark, and answers how many.
     pub fn tidy(&mut self, safe: K::Mark) -> usize
         ensures step { (result, view self.new) ≡ server_tidy K.MarkKind.kind (view self.old) (K.MarkKind.meaning safe) }
-        ensures law { IsTidied K.MarkKind.kind (K.MarkKind.meaning safe) (view self.old).held (view self.new).held result }
+        ensures law { IsTidied K.MarkKind.kind (K.MarkKind.meaning safe)
+            (view self.old).held (view self.new).held result }
     {
         self.table.tidy::<K>(safe)
     }
