@@ -1,7 +1,8 @@
 //! A server's part of the calls that tell its clock, write, and send and take entries.
-ghost use Rattle.std.specs.Prelude.{◌≡◌, ◌==◌};
+ghost use Rattle.std.specs.Prelude.{◌≡◌, ◌==◌, true};
 ghost use Rattle.stamps.specs.Refusals.{RefusalKeeps};
 ghost use Rattle.servers.specs.Laws.{IsAbove};
+ghost use Rattle.servers.specs.Others.{is_other};
 ghost use Rattle.servers.specs.Outboxes.{next_for};
 ghost use Rattle.servers.specs.Versions.{stamp_answered};
 ghost use Rattle.servers.specs.Servers.{view, last_of, server_tell, server_heartbeat, server_put, server_hand_over, server_take, server_take_other, lead_of};
@@ -141,6 +142,7 @@ impl<C: ClockRule, K: MarkKind> Server<C, K> {
 
     // Takes an entry of a server that stands at another site of the layout.
     fn take_other(&mut self, from: Site, entry: Entry) -> Result<(), Refusal>
+        requires { is_other (view self.old).site (view self.old).sites from ≡ true }
         ensures step { (result, view self.new) ≡ server_take_other (view self.old) from entry }
         ensures keeps { RefusalKeeps result (view self.old) (view self.new) }
     {
