@@ -9,7 +9,7 @@ use stamps::site::Site;
 use std::marker::Model;
 
 /// Two counts that nobody has checked.
-#[derive(PartialEq, Eq, Debug, Drop)]
+#[derive(Debug, PartialEq, Eq, Drop)]
 pub struct Draft {
     /// How many sites; a layout has 2 to 4.
     pub sites: u8,
@@ -18,7 +18,7 @@ pub struct Draft {
 }
 
 /// Two counts that the check has passed. Only [`Draft::check`] makes one.
-#[derive(Clone, Copy, PartialEq, Eq, Debug)]
+#[derive(Clone, Copy, Debug, PartialEq, Eq)]
 pub struct Layout {
     sites: u8,
     partitions: u8,

@@ -9,7 +9,7 @@ use stamps::stamp::Stamp;
 use std::marker::Model;
 
 /// A version as a client sees it.
-#[derive(Clone, Copy, Debug, PartialEq, Eq)]
+#[derive(Clone, Copy, Debug, PartialEq, Eq, Hash)]
 pub struct Shown {
     /// The value that was put.
     pub value: Value,

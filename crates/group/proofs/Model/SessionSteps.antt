@@ -22,7 +22,7 @@ use Rattle.group.specs.Model.Events.{Put, IsAsLate, Shown, Ticket, open_session,
 use Rattle.group.specs.Model.Groups.{GroupState, SessionState, new_session, partition_of, session_at, with_server, with_sessions, with_session}
 use Rattle.group.specs.Model.Pasts.{Pasts, of_session, HasInPast, pasts_with_shown, pasts_with_put, site_of}
 use Rattle.group.specs.Model.Promises.{WasOpened, WasPut}
-use Rattle.group.proofs.Model.Rows.{covers_self, covers_trans, covers_true, covers_at, entry_rises, floor_mark, floor_over, floor_under, full_is_mark, full_mark_lem, full_stamp, join_left, join_right, join_least, join_mark, stamps_at}
+use Rattle.group.proofs.Model.Rows.{covers_self, covers_trans, covers_true, covers_at, entry_rises, floor_mark, floor_over, floor_under, full_is_mark, full_stamp, join_left, join_right, join_least, join_mark, stamps_at}
 use Rattle.group.proofs.Model.Lists.{set1, set2, set1_cases, set2_cases, set1_other, set2_here, set2_same, get_d_push}
 use Rattle.group.proofs.Model.Invariant.{Shape, Ghost, tables, name_of, part, last, Had, Below, Reached, Core}
 use Rattle.group.proofs.Model.Effects.{Rises, part_small, raised, reached_rises, with_entries}

@@ -8,8 +8,6 @@ use Rattle.group.proofs.Model.Theorem.{keeps_promises}
 use Rattle.group.proofs.Views.{state_with, at_made}
 use Rattle.group.proofs.group_parts.GroupParts.new.Goals as goal
 
--- each of the four servers is fresh for its own site, and there are no sessions and no open snapshots; such a group keeps
--- the promises
 -- there are no sessions and no open snapshots
 pub invariant_of-result : goal.invariant_of-result
 invariant_of-result g c =

@@ -1,4 +1,4 @@
-use Rattle.std.proofs.Common.{◌≡◌, Some, None, Ok, slice_get, sym, refl, ap, ◌∙◌}
+use Rattle.std.proofs.Common.{Some, None, Ok, slice_get, sym, refl, ap, ◌∙◌}
 use Rattle.servers.specs.Servers.{ServerState, view as server_view}
 use Rattle.group.specs.Model.Calls.{show}
 use Rattle.group.specs.Model.Groups.{SeatState, SessionState, seat_at}

@@ -1,4 +1,4 @@
-use Rattle.std.proofs.Common.{ℕ, Ok, ap, ◌∙◌, rules}
+use Rattle.std.proofs.Common.{ℕ, Ok, ap, ◌∙◌}
 use Rattle.stamps.specs.Rows.{PerSite}
 use Rattle.stamps.specs.CommonFloors.{common_floor}
 use Rattle.group.specs.Model.Groups.{reported_at}
