@@ -14,7 +14,7 @@ use stamps::outside::signed_stamp;
 use stamps::raw::Raw;
 
 /// The stamp that the raw rule answers to a last stamp, a reading and the stamp of a dependency, or minus the refusal's
-/// number: -3 if one of them is out of its range, -7 if it is too early, -8 if no later stamp is left.
+/// number: -3 if one of them is out of its range, -7 if it is too early.
 #[unsafe(no_mangle)]
 pub extern "C" fn raw_stamp(last: u64, reading: u64, dependency: u64) -> i64
     ensures { result ≡ signed_number (stamp_from raw_rule last reading dependency) }

@@ -113,8 +113,16 @@ fn values_are_listed(rt: HostRuntime) -> Result<(), Fail> {
     check_listing(
         &rt,
         rt.alloc(),
-        b"L\x02\x01HES\0P\0\0\x01\x01\xff\xff\xff\xffG\0\0\x01P\0\0\x01\0\0\0\0\0G\0\0\x01P\0\0\x01\x03\0\0\0\0G\0\0\x01P\0\0\x01\x02\0\0\x27\x11",
-        b"1 L ok\n2 S 0\n3 P 0.1\n4 G price 4294967295 0.1 0\n5 P 0.2\n6 G gone 0.2 0\n7 P 0.3\n8 G basis part 0.3 0\n9 P no 3\n",
+        b"L\x02\x01HES\0\
+          P\0\0\x01\x01\xff\xff\xff\xffG\0\0\x01\
+          P\0\0\x01\0\0\0\0\0G\0\0\x01\
+          P\0\0\x01\x03\0\0\0\0G\0\0\x01\
+          P\0\0\x01\x02\0\0\x27\x11",
+        b"1 L ok\n2 S 0\n\
+          3 P 0.1\n4 G price 4294967295 0.1 0\n\
+          5 P 0.2\n6 G gone 0.2 0\n\
+          7 P 0.3\n8 G basis part 0.3 0\n\
+          9 P no 3\n",
     )?;
     Ok(())
 }
