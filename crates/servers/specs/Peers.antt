@@ -19,3 +19,7 @@ checked_peers own sites =
     if nat_le 2 sites && nat_le sites 4
     then (if nat_lt own sites then Ok (record { own = own; sites = sites }) else Err NotInLayout)
     else Err BadLayout
+
+-- the same layout from another site; from this one if the layout lacks that site
+abbrev pub peers_at : PeersRecord → ℕ → PeersRecord
+peers_at p site = if nat_lt site p.sites then record p { own = site } else p

@@ -1,7 +1,7 @@
 //! A site of a layout, and the others.
 ghost use Rattle.std.specs.Prelude.{◌≡◌, ◌<◌, ◌≤◌};
 ghost use Rattle.servers.specs.Others.{is_other};
-ghost use Rattle.servers.specs.Peers.{checked_peers, IsInLayout};
+ghost use Rattle.servers.specs.Peers.{checked_peers, peers_at, IsInLayout};
 
 use stamps::refusal::Refusal;
 use stamps::site::Site;
@@ -59,6 +59,17 @@ impl Peers {
         ensures layout { IsInLayout self.own self.sites }
     {
         self.sites
+    }
+
+    /// The same layout from another site; from this one if the layout lacks that site.
+    pub fn at(self, site: Site) -> Peers
+        ensures { result ≡ peers_at self site }
+    {
+        if site.number() < self.sites {
+            Peers { own: site, ..self }
+        } else {
+            self
+        }
     }
 
     // Whether a number is that of another site of the layout.

@@ -3,7 +3,6 @@ ghost use Rattle.std.specs.Prelude.{◌≡◌, ◌<◌, ◌≤◌};
 ghost use Rattle.group.specs.Model.Groups.{new_group};
 ghost use Rattle.group.specs.Model.GroupStore.{group_store};
 ghost use Rattle.group.specs.Model.Promises.{KeepsPromises};
-ghost use Rattle.servers.specs.Servers.{new_server, view as server_view};
 ghost use Rattle.group.specs.Parts.{view};
 
 use super::GroupParts;
@@ -24,26 +23,31 @@ impl<C: ClockRule, K: MarkKind> GroupParts<C, K> {
         ensures promises { KeepsPromises (group_store C.answer K.kind layout.sites) (view result) }
     {
         let sites = layout.sites();
+        let first = first_of(sites);
+        // In place of a site that the layout lacks, its first one, whose servers there are never used.
+        let second = first.at(site_of(1));
+        let third = first.at(site_of(2));
+        let fourth = first.at(site_of(3));
         GroupParts {
             layout,
             // Written out: a function of the index would have to be told which indices there are.
             servers: [
-                made_at(sites, 0),
-                made_at(sites, 0),
-                made_at(sites, 0),
-                made_at(sites, 0),
-                made_at(sites, 1),
-                made_at(sites, 1),
-                made_at(sites, 1),
-                made_at(sites, 1),
-                made_at(sites, 2),
-                made_at(sites, 2),
-                made_at(sites, 2),
-                made_at(sites, 2),
-                made_at(sites, 3),
-                made_at(sites, 3),
-                made_at(sites, 3),
-                made_at(sites, 3),
+                Server::new(first),
+                Server::new(first),
+                Server::new(first),
+                Server::new(first),
+                Server::new(second),
+                Server::new(second),
+                Server::new(second),
+                Server::new(second),
+                Server::new(third),
+                Server::new(third),
+                Server::new(third),
+                Server::new(third),
+                Server::new(fourth),
+                Server::new(fourth),
+                Server::new(fourth),
+                Server::new(fourth),
             ],
             sessions: ArrayVec::new(),
             seats: Seats::new(),
@@ -52,14 +56,13 @@ impl<C: ClockRule, K: MarkKind> GroupParts<C, K> {
     }
 }
 
-// The server of a site as it is made. In place of a site that the layout lacks, one of site 0, which is never used.
-fn made_at<C: ClockRule, K: MarkKind>(sites: u8, site: u8) -> Server<C, K>
+// The first of so many sites, with its peers.
+fn first_of(sites: u8) -> Peers
     requires { (2 ≤ sites) × (sites ≤ 4) }
-    ensures { site < sites → server_view result ≡ new_server site sites }
+    ensures { (result.own ≡ 0) × (result.sites ≡ sites) }
 {
-    let site = if site < sites { site } else { 0 };
-    match Peers::new(site_of(site), sites) {
-        Ok(peers) => Server::new(peers),
+    match Peers::new(site_of(0), sites) {
+        Ok(peers) => peers,
         Err(_) => unreachable(),
     }
 }
