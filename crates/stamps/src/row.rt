@@ -129,8 +129,11 @@ impl Row {
     pub fn greatest(&self) -> Stamp
         ensures { result ≡ greatest self.now }
     {
-        let [a, b, c, d] = self.entries;
-        a.max(b).max(c.max(d))
+        let mut best = Stamp::zero();
+        for entry in &self.entries {
+            best = best.max(*entry);
+        }
+        best
     }
 
     /// The least of the four entries.

@@ -3,6 +3,8 @@ ghost use Rattle.std.specs.Prelude.{◌≡◌, ◌<◌, ◌≤◌};
 ghost use Rattle.group.specs.Model.Groups.{new_group};
 ghost use Rattle.group.specs.Model.GroupStore.{group_store};
 ghost use Rattle.group.specs.Model.Promises.{KeepsPromises};
+ghost use Rattle.servers.specs.Peers.{peers_at};
+ghost use Rattle.servers.specs.Servers.{new_server, view as server_view};
 ghost use Rattle.group.specs.Parts.{view};
 
 use super::GroupParts;
@@ -22,32 +24,27 @@ impl<C: ClockRule, K: MarkKind> GroupParts<C, K> {
         ensures state { view result ≡ new_group layout.sites layout.partitions }
         ensures promises { KeepsPromises (group_store C.answer K.kind layout.sites) (view result) }
     {
-        let sites = layout.sites();
-        let first = first_of(sites);
-        // In place of a site that the layout lacks, its first one, whose servers there are never used.
-        let second = first.at(site_of(1));
-        let third = first.at(site_of(2));
-        let fourth = first.at(site_of(3));
+        let first = first_of(layout.sites());
         GroupParts {
             layout,
             // Written out: a function of the index would have to be told which indices there are.
             servers: [
-                Server::new(first),
-                Server::new(first),
-                Server::new(first),
-                Server::new(first),
-                Server::new(second),
-                Server::new(second),
-                Server::new(second),
-                Server::new(second),
-                Server::new(third),
-                Server::new(third),
-                Server::new(third),
-                Server::new(third),
-                Server::new(fourth),
-                Server::new(fourth),
-                Server::new(fourth),
-                Server::new(fourth),
+                made_at(first, 0),
+                made_at(first, 0),
+                made_at(first, 0),
+                made_at(first, 0),
+                made_at(first, 1),
+                made_at(first, 1),
+                made_at(first, 1),
+                made_at(first, 1),
+                made_at(first, 2),
+                made_at(first, 2),
+                made_at(first, 2),
+                made_at(first, 2),
+                made_at(first, 3),
+                made_at(first, 3),
+                made_at(first, 3),
+                made_at(first, 3),
             ],
             sessions: ArrayVec::new(),
             seats: Seats::new(),
@@ -65,4 +62,12 @@ fn first_of(sites: u8) -> Peers
         Ok(peers) => peers,
         Err(_) => unreachable(),
     }
+}
+
+// The server of a site as it is made. In place of a site that the layout lacks, one of its first site, which is never used.
+fn made_at<C: ClockRule, K: MarkKind>(first: Peers, site: u8) -> Server<C, K>
+    requires { site < 4 }
+    ensures { server_view result ≡ new_server (peers_at first site).own (peers_at first site).sites }
+{
+    Server::new(first.at(site_of(site)))
 }

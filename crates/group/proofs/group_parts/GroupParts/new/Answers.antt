@@ -13,11 +13,11 @@ use Rattle.group.proofs.group_parts.GroupParts.new.Goals as goal
 -- there are no sessions and no open snapshots
 pub invariant_of-result : goal.invariant_of-result
 invariant_of-result g c =
-    let none : (seat : ℕ) → get_or c.new-18.result.places seat None ≡ None =
-    λ seat. ap (λ (xs : List (Option SeatState)). get_or xs seat None) c.new-18.ensures ∙ free seat
+    let none : (seat : ℕ) → get_or c.new-2.result.places seat None ≡ None =
+    λ seat. ap (λ (xs : List (Option SeatState)). get_or xs seat None) c.new-2.ensures ∙ free seat
     in
     record {
-      inside = λ i l. let empty = ap length c.new-17.ensures in absurd (omega arith);
+      inside = λ i l. let empty = ap length c.new.ensures in absurd (omega arith);
       opened = λ seat y is. let no : ◌≡◌ {A = Option SeatState} None (Some y) = sym (none seat) ∙ is in absurd (cc);
     }
   where
@@ -29,22 +29,17 @@ invariant_of-result g c =
 pub returns : goal.returns
 returns g c =
     let layout = c.args.layout in
-    let sites = c.sites-sites.ensures.value in
-    let first = c.first_of-first.ensures in
-    let count = first.1 ∙ sites in
-    let site1 = from_first layout.sites 1 c.first_of-first.result c.at-second.result count (c.at-second.ensures ∙ ap (peers_at c.first_of-first.result) c.site_of.ensures) in
-    let site2 = from_first layout.sites 2 c.first_of-first.result c.at-third.result count (c.at-third.ensures ∙ ap (peers_at c.first_of-first.result) c.site_of-2.ensures) in
-    let site3 = from_first layout.sites 3 c.first_of-first.result c.at-fourth.result count (c.at-fourth.ensures ∙ ap (peers_at c.first_of-first.result) c.site_of-3.ensures) in
-    let site0 : 0 < layout.sites → (c.first_of-first.result.own ≡ 0) × (c.first_of-first.result.sites ≡ layout.sites) = λ l. (first.0, count) in
+    let count = c.first_of-first.ensures.1 ∙ c.sites.ensures.value in
+    let here = made layout.sites c.first_of-first.result count in
     let is =
     whole _ _ _ _ _
     (at_made layout.sites _ _ _ _ _ _ _ _ _ _ _ _ _ _ _ _
-    (λ l. (made site0 c.new.ensures.state l, made site0 c.new-2.ensures.state l, made site0 c.new-3.ensures.state l, made site0 c.new-4.ensures.state l))
-    (λ l. (made site1 c.new-5.ensures.state l, made site1 c.new-6.ensures.state l, made site1 c.new-7.ensures.state l, made site1 c.new-8.ensures.state l))
-    (λ l. (made site2 c.new-9.ensures.state l, made site2 c.new-10.ensures.state l, made site2 c.new-11.ensures.state l, made site2 c.new-12.ensures.state l))
-    (λ l. (made site3 c.new-13.ensures.state l, made site3 c.new-14.ensures.state l, made site3 c.new-15.ensures.state l, made site3 c.new-16.ensures.state l)))
-    c.new-17.ensures
-    c.new-18.ensures
+    (λ l. (here 0 _ c.made_at.ensures l, here 0 _ c.made_at-2.ensures l, here 0 _ c.made_at-3.ensures l, here 0 _ c.made_at-4.ensures l))
+    (λ l. (here 1 _ c.made_at-5.ensures l, here 1 _ c.made_at-6.ensures l, here 1 _ c.made_at-7.ensures l, here 1 _ c.made_at-8.ensures l))
+    (λ l. (here 2 _ c.made_at-9.ensures l, here 2 _ c.made_at-10.ensures l, here 2 _ c.made_at-11.ensures l, here 2 _ c.made_at-12.ensures l))
+    (λ l. (here 3 _ c.made_at-13.ensures l, here 3 _ c.made_at-14.ensures l, here 3 _ c.made_at-15.ensures l, here 3 _ c.made_at-16.ensures l)))
+    c.new.ensures
+    c.new-2.ensures
     in
     let rule = g.C.ClockRule.answer in
     let kind = g.K.MarkKind.kind in
@@ -52,21 +47,16 @@ returns g c =
       state = is;
       promises =
           subst (KeepsPromises (group_store rule kind layout.sites)) (sym is)
-          (keeps_promises g.met.K.MarkKind.lawful rule g.met.C.ClockRule.lawful layout.sites layout.partitions c.sites-sites.ensures.bounded);
+          (keeps_promises g.met.K.MarkKind.lawful rule g.met.C.ClockRule.lawful layout.sites layout.partitions c.sites.ensures.bounded);
     }
   where
-    -- another site of the layout, from its first one
-    from_first : (all n : ℕ) (first other : PeersRecord) → first.sites ≡ all → other ≡ peers_at first n → n < all
-        → (other.own ≡ n) × (other.sites ≡ all)
-    from_first all n first other e is l =
-        let other_is : other ≡ record first { own = n } =
-        is ∙ cond-true (ltb n first.sites) _ first (lt-ltb n first.sites (subst (λ count. n < count) (sym e) l)) in
-        (ap (λ (p : PeersRecord). p.own) other_is, ap (λ (p : PeersRecord). p.sites) other_is ∙ e)
-
-    made : {own count n all : ℕ} {t : ServerState} → (n < all → (own ≡ n) × (count ≡ all)) → t ≡ new_server own count → n < all
-        → t ≡ new_server n all
-    made {own} {count} {n} {all} site new l =
-        let s = site l in new ∙ ap (λ c. new_server own c) s.1 ∙ ap (λ o. new_server o all) s.0
+    -- where the layout has the site, the server is new for it
+    made : (all : ℕ) (first : PeersRecord) → first.sites ≡ all → (n : ℕ) (t : ServerState)
+        → t ≡ new_server (peers_at first n).own (peers_at first n).sites → n < all → t ≡ new_server n all
+    made all first e n t is l =
+        let at : peers_at first n ≡ record first { own = n } =
+        cond-true (ltb n first.sites) _ first (lt-ltb n first.sites (subst (λ count. n < count) (sym e) l)) in
+        is ∙ ap (λ (p : PeersRecord). new_server p.own p.sites) at ∙ ap (λ count. new_server n count) e
 
     whole : (sites partitions : ℕ) (server : ℕ → ℕ → ServerState) (sessions : List SessionState) (seats : List (Option SeatState))
         → server ≡ (λ site partition. new_server site sites) → sessions ≡ [] → seats ≡ None ∷ None ∷ None ∷ None ∷ []
