@@ -64,7 +64,8 @@ fn first_of(sites: u8) -> Peers
     }
 }
 
-// The server of a site as it is made. In place of a site that the layout lacks, one of its first site, which is never used.
+// The server of a site as it is made. In place of a site that the layout lacks, one of its first site, which is never
+// used.
 fn made_at<C: ClockRule, K: MarkKind>(first: Peers, site: u8) -> Server<C, K>
     requires { site < 4 }
     ensures { server_view result ≡ new_server (peers_at first site).own (peers_at first site).sites }
