@@ -1,6 +1,7 @@
 -- What sessions do to a group.
-use Rattle.std.proofs.Common.{◌≡◌, ℕ, suc, ◌-◌, ◌^◌, ◌<◌, Bool, true, false, cond, ◌&&◌, eqb, ltb, leb, length, Some, None, Ok, Err, Option, Result, sym, refl, ap, ◌∙◌, subst}
+use Rattle.std.proofs.Common.{◌≡◌, ℕ, suc, ◌-◌, ◌^◌, ◌<◌, Bool, true, false, cond, ◌&&◌, eqb, ltb, leb, length, get_or, set, Some, None, Ok, Err, Option, Result, sym, refl, ap, ◌∙◌, subst}
 use Rattle.std.proofs.lemmas.Bool.{and_from, cond-false, cond-true, eq-eqb, lt-leb}
+use Rattle.std.proofs.lemmas.List.{get_or-set_same}
 use Rattle.stamps.specs.declared.refusal.Refusal.{Refusal}
 use Rattle.stamps.specs.declared.refusal.Refusal.TheVariants.{NotInLayout, NoSession, End, NoneFree, NotOpen}
 use Rattle.stamps.specs.Rows.{PerSite}
@@ -9,8 +10,8 @@ use Rattle.servers.specs.Servers.{Rule, ServerState, latest_visible, latest_cove
 use Rattle.servers.specs.declared.value.Value.{Value}
 use Rattle.servers.specs.declared.version.Version.{Version}
 use Rattle.group.specs.Model.Events.{Shown, Ticket}
-use Rattle.group.specs.Model.Groups.{GroupState, SessionState, SeatState, lowest_free, partition_of, session_at, with_seat, with_server, with_session}
-use Rattle.group.specs.Model.Calls.{server_left, on_session, on_seat_of, depend, put_left, show, informed_server, learn, open_snapshot_at}
+use Rattle.group.specs.Model.Groups.{GroupState, SessionState, SeatState, lowest_free, partition_of, seat_at, session_at, with_seat, with_server, with_session}
+use Rattle.group.specs.Model.Calls.{HasOpen, server_left, on_session, on_seat_of, depend, put_left, show, informed_server, learn, open_snapshot_at}
 use Rattle.group.specs.Sessions.{free_seat, open_at}
 use Rattle.group.proofs.Cuts.{found_free}
 
@@ -147,3 +148,15 @@ seats_it k g mid after i partition seat cut ticket_seat ticket_serial has sessio
     ∙ ap (open_snapshot_at k g i x partition) found.0
     ∙ sym (cond-true (ltb i (length g.sessions)) _ (Err NoSession, g) session)
     ∙ sym (cond-true (ltb partition g.partitions) _ (Err NotInLayout, g) has)
+
+-- a snapshot that was seated is open
+pub has_open : (mid after : GroupState) (i seat : ℕ) (cut : PerSite) (t : Ticket) → seat < length mid.seats → t.seat ≡ seat → t.serial ≡ mid.next_serial
+    → after ≡ with_seat mid seat (Some (record { session = i; serial = mid.next_serial; cut = cut })) (suc mid.next_serial)
+    → HasOpen after t
+has_open mid after i seat cut t inside seated serial sets =
+    let y : SeatState = record { session = i; serial = mid.next_serial; cut = cut } in
+    record {
+      snapshot = y;
+      there = ap (λ (h : GroupState). seat_at h t.seat) sets ∙ ap (λ a. get_or (set mid.seats seat (Some y)) a None) seated ∙ get_or-set_same mid.seats seat (Some y) None inside;
+      serial = sym serial;
+    }

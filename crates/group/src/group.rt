@@ -1,13 +1,13 @@
 //! A group: every server of every site, the sessions and the open snapshots.
 ghost use Rattle.stamps.specs.Refusals.{RefusalKeeps};
-ghost use Rattle.group.specs.Model.Calls.{IsStep};
+ghost use Rattle.group.specs.Model.Calls.{HasOpen, IsStep};
 ghost use Rattle.group.specs.Model.Events as call;
 ghost use Rattle.group.specs.Model.Groups.{new_group};
 ghost use Rattle.group.specs.Model.GroupStore.{group_store};
 ghost use Rattle.group.specs.Model.Promises.{KeepsPromises};
 ghost use Rattle.group.specs.Model.Reached.{StillKeeps};
 ghost use Rattle.group.specs.Groups.{view};
-ghost use Rattle.std.specs.Prelude.{◌≡◌};
+ghost use Rattle.std.specs.Prelude.{◌≡◌, IfOk};
 
 use crate::group_parts::GroupParts;
 use crate::layout::Layout;
@@ -175,6 +175,7 @@ impl<C: ClockRule, K: MarkKind> Group<C, K> {
         ensures step { IsStep C.answer K.kind (view self.old) (call.open_snapshot session partition) result
             (view self.new) }
         ensures keeps { RefusalKeeps result (view self.old) (view self.new) }
+        ensures open { IfOk result (HasOpen (view self.new)) }
     {
         self.parts.open_snapshot(session, partition)
     }

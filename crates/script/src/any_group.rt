@@ -1,8 +1,7 @@
 //! A group of any of the clock rules and kinds of mark that are built, or none yet.
 ghost use Rattle.std.specs.Prelude.{◌≡◌, is_ok};
 ghost use Rattle.script.specs.Promises.{KeepsAll, StillKeepsAll};
-ghost use Rattle.script.specs.ScriptGroups.{ScriptGroup, answer_of_making, group_of};
-ghost use Rattle.script.specs.ScriptGroups.{make_group, no_group, obey, script_group};
+ghost use Rattle.script.specs.ScriptGroups.{ScriptGroup, answer_of_making, make_group, no_group, obey, script_group};
 
 use crate::answer::Answer;
 use crate::choice::{Choice, Clock, Marks};
@@ -71,25 +70,21 @@ impl AnyGroup {
     #[inline(never)]
     fn make(&mut self, command: Command) -> Result<Answer, Refusal>
         requires { script_group self.old ≡ no_group }
-        ensures { (result, script_group self.new) ≡ answer_of_making (make_group command) }
+        ensures step { (result, script_group self.new) ≡ answer_of_making (make_group command) }
+        ensures promises { KeepsAll (script_group self.new) }
     {
-        let choice = Choice::try_from(command)?;
-        *self = group_of(choice);
+        let Choice {
+            layout,
+            clock,
+            marks,
+        } = Choice::try_from(command)?;
+        match (clock, marks) {
+            (Clock::Raw, Marks::One) => *self = AnyGroup::RawOne(Group::new(layout)),
+            (Clock::Raw, Marks::Each) => *self = AnyGroup::RawEach(Group::new(layout)),
+            (Clock::Hybrid, Marks::One) => *self = AnyGroup::HybridOne(Group::new(layout)),
+            (Clock::Hybrid, Marks::Each) => *self = AnyGroup::HybridEach(Group::new(layout)),
+        }
         Ok(Answer::Done)
-    }
-}
-
-/// A new group as it was chosen.
-fn group_of(choice: Choice) -> AnyGroup
-    ensures value { script_group result ≡ group_of choice }
-    ensures promises { KeepsAll (script_group result) }
-{
-    let layout = choice.layout;
-    match (choice.clock, choice.marks) {
-        (Clock::Raw, Marks::One) => AnyGroup::RawOne(Group::new(layout)),
-        (Clock::Raw, Marks::Each) => AnyGroup::RawEach(Group::new(layout)),
-        (Clock::Hybrid, Marks::One) => AnyGroup::HybridOne(Group::new(layout)),
-        (Clock::Hybrid, Marks::Each) => AnyGroup::HybridEach(Group::new(layout)),
     }
 }
 

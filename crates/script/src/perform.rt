@@ -92,7 +92,7 @@ fn view_both<C: ClockRule, K: MarkKind>(
     };
     let first = group.read(&ticket, first);
     let second = group.read(&ticket, second);
-    // The ticket is of this group, so the closing is not refused.
-    let _ = group.close(ticket);
+    // Its snapshot is still open, as reads close none.
+    group.close(ticket).unwrap();
     Answer::Both(first, second)
 }

@@ -83,23 +83,23 @@ delivered_same : (g : GroupState) (from to partition : ℕ) (e : Option Entry) �
 delivered_same g from to partition None = stays g (Err NothingWaits)
 delivered_same g from to partition (Some e) = took_same g from to partition _
 
-asked_same : (rule : Rule) (k : Kind) (g : GroupState) (call : Call) → SameLayout g (step rule k g call)
-asked_same rule k g (open_session site) =
+step_same : (rule : Rule) (k : Kind) (g : GroupState) (call : Call) → SameLayout g (step rule k g call)
+step_same rule k g (open_session site) =
     test_same g (ltb site g.sites) _ NotInLayout
     (both_same g (leb 8 (length g.sessions)) (Err NoneFree, g) (Ok (length g.sessions), with_sessions g (g.sessions ++ (new_session site ∷ []))) (stays g (Err NoneFree)) (record { sites = refl; partitions = refl }))
-asked_same rule k g (tell site partition time) = on_server_same g site partition (λ s. server_tell s time)
-asked_same rule k g (put i key kind amount) = on_session_same g i (λ x. put_value rule k g i key x (value_from kind amount)) (put_value_same rule k g i key _ _)
-asked_same rule k g (get i key) = on_session_same g i (λ x. show k (learn k g i x (partition_of g key)) i (latest_visible k (informed_server k g x (partition_of g key)) key)) (show_same k g _ i _ refl refl)
-asked_same rule k g (heartbeat site partition) = on_server_same g site partition (server_heartbeat rule)
-asked_same rule k g (deliver from to partition) = test_same g (is_line g.sites g.partitions from to partition) _ NotInLayout (delivered_same g from to partition (next_for (g.server from partition).waiting to))
-asked_same rule k g (report site partition) = on_server_same g site partition (λ s. (Ok tt, server_report k s))
-asked_same rule k g (stabilise site partition) = on_server_same g site partition (λ s. (Ok tt, server_raise k s (common_floor k (reported_at g site))))
-asked_same rule k g (open_snapshot i partition) =
+step_same rule k g (tell site partition time) = on_server_same g site partition (λ s. server_tell s time)
+step_same rule k g (put i key kind amount) = on_session_same g i (λ x. put_value rule k g i key x (value_from kind amount)) (put_value_same rule k g i key _ _)
+step_same rule k g (get i key) = on_session_same g i (λ x. show k (learn k g i x (partition_of g key)) i (latest_visible k (informed_server k g x (partition_of g key)) key)) (show_same k g _ i _ refl refl)
+step_same rule k g (heartbeat site partition) = on_server_same g site partition (server_heartbeat rule)
+step_same rule k g (deliver from to partition) = test_same g (is_line g.sites g.partitions from to partition) _ NotInLayout (delivered_same g from to partition (next_for (g.server from partition).waiting to))
+step_same rule k g (report site partition) = on_server_same g site partition (λ s. (Ok tt, server_report k s))
+step_same rule k g (stabilise site partition) = on_server_same g site partition (λ s. (Ok tt, server_raise k s (common_floor k (reported_at g site))))
+step_same rule k g (open_snapshot i partition) =
     test_same g (ltb partition g.partitions) _ NotInLayout (on_session_same g i (λ x. open_snapshot_at k g i x partition (lowest_free g.seats)) (seated_same k g i _ partition (lowest_free g.seats)))
-asked_same rule k g (read ticket key) = seat_same g ticket.serial (seat_at g ticket.seat) _ (λ y. show_same k g _ y.session _ refl refl)
-asked_same rule k g (close ticket) = seat_same g ticket.serial (seat_at g ticket.seat) (λ y. (Ok tt, with_seat g ticket.seat None g.next_serial)) (λ y. record { sites = refl; partitions = refl })
-asked_same rule k g (tidy site partition) = on_server_same g site partition (λ s. with_ok (server_tidy k s (safe_mark k g site)))
-asked_same rule k g (lead site partition) = test_same g (has_server g site partition) (Ok (lead_of (g.server site partition)), g) NotInLayout (stays g (Ok (lead_of (g.server site partition))))
+step_same rule k g (read ticket key) = seat_same g ticket.serial (seat_at g ticket.seat) _ (λ y. show_same k g _ y.session _ refl refl)
+step_same rule k g (close ticket) = seat_same g ticket.serial (seat_at g ticket.seat) (λ y. (Ok tt, with_seat g ticket.seat None g.next_serial)) (λ y. record { sites = refl; partitions = refl })
+step_same rule k g (tidy site partition) = on_server_same g site partition (λ s. with_ok (server_tidy k s (safe_mark k g site)))
+step_same rule k g (lead site partition) = test_same g (has_server g site partition) (Ok (lead_of (g.server site partition)), g) NotInLayout (stays g (Ok (lead_of (g.server site partition))))
 
 -- a group as it is made is reached by no calls
 pub reached_made : (rule : Rule) (k : Kind) (g : GroupState) → g ≡ new_group g.sites g.partitions → IsLayoutBounded g.sites g.partitions → IsReached rule k g
@@ -109,7 +109,7 @@ reached_made rule k g is layout = record { layout = layout; calls = []; leads = 
 pub reached_asked : {rule : Rule} {k : Kind} {g : GroupState} (call : Call) → IsReached rule k g → IsReached rule k (step rule k g call).1
 reached_asked {rule} {k} {g} call r =
     let h = (step rule k g call).1 in
-    let same = asked_same rule k g call in
+    let same = step_same rule k g call in
     let Leads : ℕ → ℕ → Type 0 = λ sites partitions. (run_of rule k sites partitions (r.calls ++ call ∷ [])).state ≡ h in
     let S = group_store rule k g.sites in
     let leads : Leads g.sites g.partitions =

@@ -48,6 +48,12 @@ abbrev pub on_session : {A : Type 0}
     → GroupState → ℕ → (SessionState → Result A Refusal × GroupState) → Result A Refusal × GroupState
 on_session g i act = if nat_lt i (length g.sessions) then act (session_at g i) else (Err NoSession, g)
 
+-- the snapshot of a ticket is open: one is at its seat, under its serial number
+pub record HasOpen (g : GroupState) (ticket : Ticket) : Type 0 where
+  pub snapshot : SeatState
+  pub there : seat_at g ticket.seat ≡ Some snapshot
+  pub serial : snapshot.serial ≡ ticket.serial
+
 -- a call of an open snapshot: refused if its seat is not open under its serial number
 abbrev pub on_seat_of : {A : Type 0}
     → GroupState → ℕ → Option SeatState → (SeatState → Result A Refusal × GroupState) → Result A Refusal × GroupState

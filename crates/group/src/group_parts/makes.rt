@@ -1,10 +1,8 @@
 //! The making of a group.
-ghost use Rattle.std.specs.Prelude.{◌≡◌, ◌<◌, ◌≤◌};
+ghost use Rattle.std.specs.Prelude.{◌≡◌, ◌≤◌};
 ghost use Rattle.group.specs.Model.Groups.{new_group};
 ghost use Rattle.group.specs.Model.GroupStore.{group_store};
 ghost use Rattle.group.specs.Model.Promises.{KeepsPromises};
-ghost use Rattle.servers.specs.Peers.{peers_at};
-ghost use Rattle.servers.specs.Servers.{new_server, view as server_view};
 ghost use Rattle.group.specs.Parts.{view};
 
 use super::GroupParts;
@@ -25,26 +23,31 @@ impl<C: ClockRule, K: MarkKind> GroupParts<C, K> {
         ensures promises { KeepsPromises (group_store C.answer K.kind layout.sites) (view result) }
     {
         let first = first_of(layout.sites());
+        // All before the first server is made: a branch between them would have each server copied once more.
+        let second = first.at(site_of(1));
+        let third = first.at(site_of(2));
+        let fourth = first.at(site_of(3));
         GroupParts {
             layout,
-            // Written out: a function of the index would have to be told which indices there are.
+            // Written out: a function of the index would have to be told which indices there are. In the places of a site
+            // that the layout lacks stand servers of the first site, which are never used.
             servers: [
-                made_at(first, 0),
-                made_at(first, 0),
-                made_at(first, 0),
-                made_at(first, 0),
-                made_at(first, 1),
-                made_at(first, 1),
-                made_at(first, 1),
-                made_at(first, 1),
-                made_at(first, 2),
-                made_at(first, 2),
-                made_at(first, 2),
-                made_at(first, 2),
-                made_at(first, 3),
-                made_at(first, 3),
-                made_at(first, 3),
-                made_at(first, 3),
+                Server::new(first),
+                Server::new(first),
+                Server::new(first),
+                Server::new(first),
+                Server::new(second),
+                Server::new(second),
+                Server::new(second),
+                Server::new(second),
+                Server::new(third),
+                Server::new(third),
+                Server::new(third),
+                Server::new(third),
+                Server::new(fourth),
+                Server::new(fourth),
+                Server::new(fourth),
+                Server::new(fourth),
             ],
             sessions: ArrayVec::new(),
             seats: Seats::new(),
@@ -62,13 +65,4 @@ fn first_of(sites: u8) -> Peers
         Ok(peers) => peers,
         Err(_) => unreachable(),
     }
-}
-
-// The server of a site as it is made. In place of a site that the layout lacks, one of its first site, which is never
-// used.
-fn made_at<C: ClockRule, K: MarkKind>(first: Peers, site: u8) -> Server<C, K>
-    requires { site < 4 }
-    ensures { server_view result ≡ new_server (peers_at first site).own (peers_at first site).sites }
-{
-    Server::new(first.at(site_of(site)))
 }

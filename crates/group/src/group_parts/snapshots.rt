@@ -1,8 +1,8 @@
 //! The calls on snapshots.
-ghost use Rattle.std.specs.Prelude.{◌≡◌, suc, ◌-◌, ◌^◌, ◌<◌, length};
+ghost use Rattle.std.specs.Prelude.{◌≡◌, suc, ◌-◌, ◌^◌, ◌<◌, length, IfOk};
 ghost use Rattle.stamps.specs.Refusals.{RefusalKeeps};
 ghost use Rattle.group.specs.Model.Groups.{seat_at, with_seat};
-ghost use Rattle.group.specs.Model.Calls.{IsStep};
+ghost use Rattle.group.specs.Model.Calls.{HasOpen, IsStep};
 ghost use Rattle.group.specs.Model.Events as call;
 ghost use Rattle.group.specs.Parts.{view};
 ghost use Rattle.group.specs.Sessions.{open_at};
@@ -24,6 +24,7 @@ impl<C: ClockRule, K: MarkKind> GroupParts<C, K> {
         ensures step { IsStep C.answer K.kind (view self.old) (call.open_snapshot session partition) result
             (view self.new) }
         ensures keeps { RefusalKeeps result (view self.old) (view self.new) }
+        ensures open { IfOk result (HasOpen (view self.new)) }
     {
         let partition = self.layout.partition(partition)?;
         if !self.has_session(session) {

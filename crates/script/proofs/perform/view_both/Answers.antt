@@ -1,6 +1,18 @@
+use Rattle.std.proofs.Common.{ap}
+use Rattle.std.specs.Prelude.{is_ok}
 use Rattle.group.specs.Groups.{view}
-use Rattle.script.proofs.FourCalls.{four_calls}
+use Rattle.script.proofs.FourCalls.{four_calls, stays_open, closes}
 use Rattle.script.proofs.perform.view_both.Goals as goal
+
+-- the snapshot stays open over both reads, so its close is done
+pub unwrap-requires : goal.unwrap-requires
+unwrap-requires g c =
+    let rule = g.C.ClockRule.answer in
+    let kind = g.K.MarkKind.kind in
+    let ticket = c.in-Ok.ticket in
+    let once = stays_open rule kind _ _ ticket ticket _ _ c.read-first.ensures.step c.in-Ok.ensures.open in
+    let twice = stays_open rule kind _ _ ticket ticket _ _ c.read-second.ensures.step once in
+    ap is_ok (closes rule kind _ _ ticket _ c.close.ensures.step twice)
 
 pub returns : goal.returns
 returns g c =

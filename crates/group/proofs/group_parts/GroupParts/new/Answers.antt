@@ -13,11 +13,11 @@ use Rattle.group.proofs.group_parts.GroupParts.new.Goals as goal
 -- there are no sessions and no open snapshots
 pub invariant_of-result : goal.invariant_of-result
 invariant_of-result g c =
-    let none : (seat : ℕ) → get_or c.new-2.result.places seat None ≡ None =
-    λ seat. ap (λ (xs : List (Option SeatState)). get_or xs seat None) c.new-2.ensures ∙ free seat
+    let none : (seat : ℕ) → get_or c.new-18.result.places seat None ≡ None =
+    λ seat. ap (λ (xs : List (Option SeatState)). get_or xs seat None) c.new-18.ensures ∙ free seat
     in
     record {
-      inside = λ i l. let empty = ap length c.new.ensures in absurd (omega arith);
+      inside = λ i l. let empty = ap length c.new-17.ensures in absurd (omega arith);
       opened = λ seat y is. let no : ◌≡◌ {A = Option SeatState} None (Some y) = sym (none seat) ∙ is in absurd (cc);
     }
   where
@@ -30,16 +30,20 @@ pub returns : goal.returns
 returns g c =
     let layout = c.args.layout in
     let count = c.first_of-first.ensures.1 ∙ c.sites.ensures.value in
-    let here = made layout.sites c.first_of-first.result count in
+    let one = made layout.sites c.first_of-first.result 0 c.first_of-first.ensures.0 count in
+    let at = made_at layout.sites c.first_of-first.result count in
+    let two = at c.at-second.result _ 1 c.at-second.ensures c.site_of.ensures in
+    let three = at c.at-third.result _ 2 c.at-third.ensures c.site_of-2.ensures in
+    let four = at c.at-fourth.result _ 3 c.at-fourth.ensures c.site_of-3.ensures in
     let is =
     whole _ _ _ _ _
     (at_made layout.sites _ _ _ _ _ _ _ _ _ _ _ _ _ _ _ _
-    (λ l. (here 0 _ c.made_at.ensures l, here 0 _ c.made_at-2.ensures l, here 0 _ c.made_at-3.ensures l, here 0 _ c.made_at-4.ensures l))
-    (λ l. (here 1 _ c.made_at-5.ensures l, here 1 _ c.made_at-6.ensures l, here 1 _ c.made_at-7.ensures l, here 1 _ c.made_at-8.ensures l))
-    (λ l. (here 2 _ c.made_at-9.ensures l, here 2 _ c.made_at-10.ensures l, here 2 _ c.made_at-11.ensures l, here 2 _ c.made_at-12.ensures l))
-    (λ l. (here 3 _ c.made_at-13.ensures l, here 3 _ c.made_at-14.ensures l, here 3 _ c.made_at-15.ensures l, here 3 _ c.made_at-16.ensures l)))
-    c.new.ensures
-    c.new-2.ensures
+    (λ l. (one _ c.new.ensures.state, one _ c.new-2.ensures.state, one _ c.new-3.ensures.state, one _ c.new-4.ensures.state))
+    (λ l. (two l _ c.new-5.ensures.state, two l _ c.new-6.ensures.state, two l _ c.new-7.ensures.state, two l _ c.new-8.ensures.state))
+    (λ l. (three l _ c.new-9.ensures.state, three l _ c.new-10.ensures.state, three l _ c.new-11.ensures.state, three l _ c.new-12.ensures.state))
+    (λ l. (four l _ c.new-13.ensures.state, four l _ c.new-14.ensures.state, four l _ c.new-15.ensures.state, four l _ c.new-16.ensures.state)))
+    c.new-17.ensures
+    c.new-18.ensures
     in
     let rule = g.C.ClockRule.answer in
     let kind = g.K.MarkKind.kind in
@@ -50,13 +54,18 @@ returns g c =
           (keeps_promises g.met.K.MarkKind.lawful rule g.met.C.ClockRule.lawful layout.sites layout.partitions c.sites.ensures.bounded);
     }
   where
-    -- where the layout has the site, the server is new for it
-    made : (all : ℕ) (first : PeersRecord) → first.sites ≡ all → (n : ℕ) (t : ServerState)
-        → t ≡ new_server (peers_at first n).own (peers_at first n).sites → n < all → t ≡ new_server n all
-    made all first e n t is l =
-        let at : peers_at first n ≡ record first { own = n } =
-        cond-true (ltb n first.sites) _ first (lt-ltb n first.sites (subst (λ count. n < count) (sym e) l)) in
-        is ∙ ap (λ (p : PeersRecord). new_server p.own p.sites) at ∙ ap (λ count. new_server n count) e
+    -- a server that is made with a site and its peers is new for them
+    made : (all : ℕ) (p : PeersRecord) (n : ℕ) → p.own ≡ n → p.sites ≡ all
+        → (t : ServerState) → t ≡ new_server p.own p.sites → t ≡ new_server n all
+    made all p n own count t is = is ∙ ap (λ site. new_server site p.sites) own ∙ ap (λ sites. new_server n sites) count
+
+    -- the same of a site at which the first one's peers are asked for, where the layout has it
+    made_at : (all : ℕ) (first : PeersRecord) → first.sites ≡ all → (p : PeersRecord) (site n : ℕ) → p ≡ peers_at first site → site ≡ n
+        → n < all → (t : ServerState) → t ≡ new_server p.own p.sites → t ≡ new_server n all
+    made_at all first count p site n is s l =
+        let at : p ≡ record first { own = n } =
+        is ∙ ap (λ i. peers_at first i) s ∙ cond-true (ltb n first.sites) _ first (lt-ltb n first.sites (subst (λ sites. n < sites) (sym count) l)) in
+        made all p n (ap (λ (q : PeersRecord). q.own) at) (ap (λ (q : PeersRecord). q.sites) at ∙ count)
 
     whole : (sites partitions : ℕ) (server : ℕ → ℕ → ServerState) (sessions : List SessionState) (seats : List (Option SeatState))
         → server ≡ (λ site partition. new_server site sites) → sessions ≡ [] → seats ≡ None ∷ None ∷ None ∷ None ∷ []
