@@ -6,7 +6,8 @@ use Rattle.stamps.specs.declared.refusal.Refusal.{Refusal}
 use Rattle.stamps.specs.declared.refusal.Refusal.TheVariants.{NotInLayout, NoSession, End, NoneFree, NotOpen}
 use Rattle.stamps.specs.Rows.{PerSite}
 use Rattle.stamps.specs.Kinds.{Kind}
-use Rattle.servers.specs.Servers.{Rule, ServerState, latest_visible, latest_covered, server_put, server_raise}
+use Rattle.servers.specs.Servers.{ServerState, latest_visible, latest_covered, server_put, server_raise}
+use Rattle.stamps.specs.Clocks.{Rule}
 use Rattle.servers.specs.declared.value.Value.{Value}
 use Rattle.servers.specs.declared.version.Version.{Version}
 use Rattle.group.specs.Model.Events.{Shown, Ticket}

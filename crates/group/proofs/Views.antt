@@ -1,12 +1,11 @@
 -- How the array of servers shows in the group's state.
-use Rattle.std.proofs.Common.{◌≡◌, ℕ, suc, ◌<◌, Bool, true, false, cond, ◌&&◌, eqb, ltb, List, [], ◌∷◌, map, length, get_or, set, take, drop, ◌+◌, ◌-◌, ◌*◌, ◌≤◌, Ok, Err, Option, Result, sym, refl, ap, ◌∙◌, subst, arith}
+use Rattle.std.proofs.Common.{◌≡◌, ℕ, suc, ◌<◌, Bool, true, false, cond, ◌&&◌, eqb, ltb, List, [], ◌∷◌, map, length, get_or, set, take, drop, ◌+◌, ◌-◌, ◌*◌, ◌≤◌, Ok, Err, Option, Result, sym, refl, ap, ◌∙◌, subst, arith, OnErr}
 use mathlib.Core.Path.{fun_ext}
 use Rattle.std.proofs.lemmas.List.{get_or_past, get_or-drop, get_or-map, get_or-set_same, get_or-set_other, get_or-take, length-drop, length-map, length-take, map-set, set-get_or}
 use Rattle.std.proofs.lemmas.Bool.{and_parts, and_right, cases_eq, cond_both, cond-false, cond-true, le-ltb, ltb-true}
 use Rattle.std.proofs.lemmas.Bool.Decides.{nat_tests}
 use Rattle.stamps.specs.declared.refusal.Refusal.{Refusal}
 use Rattle.stamps.specs.declared.refusal.Refusal.TheVariants.{NotInLayout}
-use Rattle.stamps.specs.Refusals.{RefusalKeeps}
 use Rattle.servers.proofs.RowEntries.{by_site}
 use Rattle.servers.specs.Servers.{ServerRecord, ServerState, new_server, view as server_view}
 use Rattle.group.specs.Model.Groups.{GroupState, SessionState, SeatState, is_server}
@@ -92,7 +91,7 @@ change_server_lem rest servers place p d new change len is e step =
 
 -- a server's answer, and the group with that server as it was left, are the group's answer and state
 left_server : {A : Type 0} (rest : Rest) (xs : List ServerState) (place : Place) (r : Result A Refusal) (s : ServerState)
-    → length xs ≡ 16 → IsPlace rest.sites place → RefusalKeeps r (server_from rest.sites xs place.0 place.1) s
+    → length xs ≡ 16 → IsPlace rest.sites place → OnErr r (s ≡ server_from rest.sites xs place.0 place.1)
     → (r, state_with rest (server_from rest.sites (set xs (place_of place.0 place.1) s)))
     ≡ server_left (state_with rest (server_from rest.sites xs)) place.0 place.1 (r, s)
 left_server rest xs place (Ok x) s len is keeps =
@@ -104,14 +103,14 @@ left_server rest xs place (Err why) s len is keeps =
 pub call_server : {A : Type 0} (rest : Rest) (servers : List ServerRecord) (place : Place) (p : ℕ) (d new : ServerRecord) (r : Result A Refusal)
     (act : ServerState → Result A Refusal × ServerState)
     → length servers ≡ 16 → IsPlace rest.sites place → p ≡ place_of place.0 place.1
-    → (r, server_view new) ≡ act (server_view (get_or servers p d)) → RefusalKeeps r (server_view (get_or servers p d)) (server_view new)
+    → (r, server_view new) ≡ act (server_view (get_or servers p d)) → OnErr r (server_view new ≡ server_view (get_or servers p d))
     → (r, state_with rest (server_from rest.sites (map server_view (set servers p new)))) ≡ call_server_at (state_with rest (server_from rest.sites (map server_view servers))) place act
 call_server rest servers place p d new r act len is e step keeps =
     let sites = rest.sites in
     let xs = map server_view servers in
     let there = at_place sites servers place.0 place.1 p d len is.0 is.1 is.2 e in
     ap (λ t. (r, state_with rest (server_from sites t))) (map-set server_view servers p new ∙ ap (λ q. set xs q (server_view new)) e)
-    ∙ left_server rest xs place r (server_view new) (length-map servers server_view ∙ len) is (subst (λ s. RefusalKeeps r s (server_view new)) (sym there) keeps)
+    ∙ left_server rest xs place r (server_view new) (length-map servers server_view ∙ len) is (subst (λ s. OnErr r (server_view new ≡ s)) (sym there) keeps)
     ∙ ap (server_left (state_with rest (server_from sites xs)) place.0 place.1) (step ∙ ap act (sym there))
 
 -- what a check of a layout has let through
@@ -156,7 +155,7 @@ inside_of sites partitions site partition place e =
 pub on_server_lem : {A : Type 0} (rest : Rest) (servers : List ServerRecord) (site partition : ℕ) (place : Place) (p : ℕ) (d new : ServerRecord) (r : Result A Refusal)
     (act : ServerState → Result A Refusal × ServerState)
     → (Ok place) ≡ checked_place rest.sites rest.partitions site partition → length servers ≡ 16 → (place.0 < 4) × (place.1 < 4) → p ≡ place_of place.0 place.1
-    → (r, server_view new) ≡ act (server_view (get_or servers p d)) → RefusalKeeps r (server_view (get_or servers p d)) (server_view new)
+    → (r, server_view new) ≡ act (server_view (get_or servers p d)) → OnErr r (server_view new ≡ server_view (get_or servers p d))
     → (r, state_with rest (server_from rest.sites (map server_view (set servers p new)))) ≡ on_server (state_with rest (server_from rest.sites (map server_view servers))) site partition act
 on_server_lem rest servers site partition place p d new r act found len is e step keeps =
     call_server rest servers place p d new r act len (is.0, is.1, inside_of rest.sites rest.partitions site partition place found) e step keeps ∙ on_place (state_with rest (server_from rest.sites (map server_view servers))) site partition place act found
@@ -184,15 +183,15 @@ sessions_left {A} g mid site partition r (Err why, s) e =
 
 -- a refusal leaves the group as it was
 pub on_server_keeps : {A : Type 0} (g after : GroupState) (site partition : ℕ) (r : Result A Refusal) (act : ServerState → Result A Refusal × ServerState)
-    → (r, after) ≡ on_server g site partition act → RefusalKeeps r g after
-on_server_keeps g after site partition r act e = subst (λ t. RefusalKeeps t.0 g t.1) (sym e) (by_test (has_server g site partition) (act (g.server site partition)))
+    → (r, after) ≡ on_server g site partition act → OnErr r (after ≡ g)
+on_server_keeps g after site partition r act e = subst (λ t. OnErr t.0 (t.1 ≡ g)) (sym e) (by_test (has_server g site partition) (act (g.server site partition)))
   where
-    by_result : {A : Type 0} (t : Result A Refusal × ServerState) → RefusalKeeps (server_left g site partition t).0 g (server_left g site partition t).1
+    by_result : {A : Type 0} (t : Result A Refusal × ServerState) → OnErr (server_left g site partition t).0 ((server_left g site partition t).1 ≡ g)
     by_result (Ok x, s) = tt
     by_result (Err why, s) = refl
 
     by_test : {A : Type 0} (b : Bool) (t : Result A Refusal × ServerState)
-        → RefusalKeeps (cond b (server_left g site partition t) (Err NotInLayout, g)).0 g (cond b (server_left g site partition t) (Err NotInLayout, g)).1
+        → OnErr (cond b (server_left g site partition t) (Err NotInLayout, g)).0 ((cond b (server_left g site partition t) (Err NotInLayout, g)).1 ≡ g)
     by_test true t = by_result t
     by_test false t = refl
 

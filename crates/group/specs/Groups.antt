@@ -7,7 +7,7 @@ use Rattle.group.specs.Places.{place_of}
 pub record GroupRecord : Type 0 where
   pub sites : ℕ
   pub partitions : ℕ
-  -- site by site, four to a site, with some that are never used in the places of sites that the layout lacks
+  -- site by site, four to a site; those in the places of sites and partitions that the layout lacks are never used
   pub servers : List ServerRecord
   pub sessions : List SessionState
   pub seats : List (Option SeatState)

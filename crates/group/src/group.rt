@@ -1,5 +1,4 @@
 //! A group: every server of every site, the sessions and the open snapshots.
-ghost use Rattle.stamps.specs.Refusals.{RefusalKeeps};
 ghost use Rattle.group.specs.Model.Calls.{HasOpen, IsStep};
 ghost use Rattle.group.specs.Model.Events as call;
 ghost use Rattle.group.specs.Model.Groups.{new_group};
@@ -7,7 +6,7 @@ ghost use Rattle.group.specs.Model.GroupStore.{group_store};
 ghost use Rattle.group.specs.Model.Promises.{KeepsPromises};
 ghost use Rattle.group.specs.Model.Reached.{StillKeeps};
 ghost use Rattle.group.specs.Groups.{view};
-ghost use Rattle.std.specs.Prelude.{◌≡◌, IfOk};
+ghost use Rattle.std.specs.Prelude.{◌≡◌, IfOk, OnErr};
 
 use crate::group_parts::GroupParts;
 use crate::layout::Layout;
@@ -69,7 +68,7 @@ impl<C: ClockRule, K: MarkKind> Group<C, K> {
     /// `NotInLayout` if the layout lacks the site, `NoneFree` if eight sessions were opened.
     pub fn open_session(&mut self, site: u8) -> Result<u8, Refusal>
         ensures step { IsStep C.answer K.kind (view self.old) (call.open_session site) result (view self.new) }
-        ensures keeps { RefusalKeeps result (view self.old) (view self.new) }
+        ensures keeps { OnErr result (view self.new ≡ view self.old) }
     {
         self.parts.open_session(site)
     }
@@ -82,7 +81,7 @@ impl<C: ClockRule, K: MarkKind> Group<C, K> {
     /// before the last reading.
     pub fn tell(&mut self, site: u8, partition: u8, time: u64) -> Result<(), Refusal>
         ensures step { IsStep C.answer K.kind (view self.old) (call.tell site partition time) result (view self.new) }
-        ensures keeps { RefusalKeeps result (view self.old) (view self.new) }
+        ensures keeps { OnErr result (view self.new ≡ view self.old) }
     {
         self.parts.tell(site, partition, time)
     }
@@ -97,7 +96,7 @@ impl<C: ClockRule, K: MarkKind> Group<C, K> {
     pub fn put(&mut self, session: u8, key: u16, kind: u8, amount: u32) -> Result<Stamp, Refusal>
         ensures step { IsStep C.answer K.kind (view self.old) (call.put session key kind amount) result
             (view self.new) }
-        ensures keeps { RefusalKeeps result (view self.old) (view self.new) }
+        ensures keeps { OnErr result (view self.new ≡ view self.old) }
     {
         self.parts.put(session, key, kind, amount)
     }
@@ -109,7 +108,7 @@ impl<C: ClockRule, K: MarkKind> Group<C, K> {
     /// `NoSession` if the session was not opened.
     pub fn get(&mut self, session: u8, key: u16) -> Result<Option<Shown>, Refusal>
         ensures step { IsStep C.answer K.kind (view self.old) (call.get session key) result (view self.new) }
-        ensures keeps { RefusalKeeps result (view self.old) (view self.new) }
+        ensures keeps { OnErr result (view self.new ≡ view self.old) }
     {
         self.parts.get(session, key)
     }
@@ -122,7 +121,7 @@ impl<C: ClockRule, K: MarkKind> Group<C, K> {
     /// `Early` or `End`.
     pub fn heartbeat(&mut self, site: u8, partition: u8) -> Result<Stamp, Refusal>
         ensures step { IsStep C.answer K.kind (view self.old) (call.heartbeat site partition) result (view self.new) }
-        ensures keeps { RefusalKeeps result (view self.old) (view self.new) }
+        ensures keeps { OnErr result (view self.new ≡ view self.old) }
     {
         self.parts.heartbeat(site, partition)
     }
@@ -135,7 +134,7 @@ impl<C: ClockRule, K: MarkKind> Group<C, K> {
     /// `TableFull` if the taking server has no room for the version; the entry waits on then.
     pub fn deliver(&mut self, from: u8, to: u8, partition: u8) -> Result<(), Refusal>
         ensures step { IsStep C.answer K.kind (view self.old) (call.deliver from to partition) result (view self.new) }
-        ensures keeps { RefusalKeeps result (view self.old) (view self.new) }
+        ensures keeps { OnErr result (view self.new ≡ view self.old) }
     {
         self.parts.deliver(from, to, partition)
     }
@@ -147,7 +146,7 @@ impl<C: ClockRule, K: MarkKind> Group<C, K> {
     /// `NotInLayout` if the layout lacks the server.
     pub fn report(&mut self, site: u8, partition: u8) -> Result<(), Refusal>
         ensures step { IsStep C.answer K.kind (view self.old) (call.report site partition) result (view self.new) }
-        ensures keeps { RefusalKeeps result (view self.old) (view self.new) }
+        ensures keeps { OnErr result (view self.new ≡ view self.old) }
     {
         self.parts.report(site, partition)
     }
@@ -159,7 +158,7 @@ impl<C: ClockRule, K: MarkKind> Group<C, K> {
     /// `NotInLayout` if the layout lacks the server.
     pub fn stabilise(&mut self, site: u8, partition: u8) -> Result<(), Refusal>
         ensures step { IsStep C.answer K.kind (view self.old) (call.stabilise site partition) result (view self.new) }
-        ensures keeps { RefusalKeeps result (view self.old) (view self.new) }
+        ensures keeps { OnErr result (view self.new ≡ view self.old) }
     {
         self.parts.stabilise(site, partition)
     }
@@ -174,7 +173,7 @@ impl<C: ClockRule, K: MarkKind> Group<C, K> {
     pub fn open_snapshot(&mut self, session: u8, partition: u8) -> Result<Ticket, Refusal>
         ensures step { IsStep C.answer K.kind (view self.old) (call.open_snapshot session partition) result
             (view self.new) }
-        ensures keeps { RefusalKeeps result (view self.old) (view self.new) }
+        ensures keeps { OnErr result (view self.new ≡ view self.old) }
         ensures open { IfOk result (HasOpen (view self.new)) }
     {
         self.parts.open_snapshot(session, partition)
@@ -187,7 +186,7 @@ impl<C: ClockRule, K: MarkKind> Group<C, K> {
     /// `NotOpen` if this group has no snapshot open under the ticket.
     pub fn read(&mut self, ticket: &Ticket, key: u16) -> Result<Option<Shown>, Refusal>
         ensures step { IsStep C.answer K.kind (view self.old) (call.read ticket.now key) result (view self.new) }
-        ensures keeps { RefusalKeeps result (view self.old) (view self.new) }
+        ensures keeps { OnErr result (view self.new ≡ view self.old) }
     {
         self.parts.read(ticket, key)
     }
@@ -199,7 +198,7 @@ impl<C: ClockRule, K: MarkKind> Group<C, K> {
     /// `NotOpen` if this group has no snapshot open under the ticket.
     pub fn close(&mut self, ticket: Ticket) -> Result<(), Refusal>
         ensures step { IsStep C.answer K.kind (view self.old) (call.close ticket) result (view self.new) }
-        ensures keeps { RefusalKeeps result (view self.old) (view self.new) }
+        ensures keeps { OnErr result (view self.new ≡ view self.old) }
     {
         self.parts.close(ticket)
     }
@@ -211,7 +210,7 @@ impl<C: ClockRule, K: MarkKind> Group<C, K> {
     /// `NotInLayout` if the layout lacks the server.
     pub fn tidy(&mut self, site: u8, partition: u8) -> Result<usize, Refusal>
         ensures step { IsStep C.answer K.kind (view self.old) (call.tidy site partition) result (view self.new) }
-        ensures keeps { RefusalKeeps result (view self.old) (view self.new) }
+        ensures keeps { OnErr result (view self.new ≡ view self.old) }
     {
         self.parts.tidy(site, partition)
     }

@@ -15,7 +15,8 @@ pub(crate) const MOST_SESSIONS: usize = 8;
 
 // Its calls take plain numbers, and refuse those that the layout lacks.
 //
-// The servers stand site by site, four to a site. Those in the places of sites that the layout lacks are never used.
+// The servers stand site by site, four to a site. Those in the places of sites and partitions that the layout lacks are
+// never used.
 // One array, as a call of an element of an array of arrays gets no proof where the element has ghost fields.
 #[derive(Drop)]
 pub(crate) struct GroupParts<C: ClockRule, K: MarkKind> {

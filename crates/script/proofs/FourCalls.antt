@@ -4,7 +4,8 @@ use Rattle.std.proofs.lemmas.Bool.{cond-true, eq-eqb}
 use Rattle.stamps.specs.declared.refusal.Refusal.{Refusal}
 use Rattle.stamps.specs.declared.refusal.Refusal.TheVariants.{NotOpen}
 use Rattle.stamps.specs.Kinds.{Kind}
-use Rattle.servers.specs.Servers.{Rule, latest_covered, server_raise}
+use Rattle.servers.specs.Servers.{latest_covered, server_raise}
+use Rattle.stamps.specs.Clocks.{Rule}
 use Rattle.servers.specs.declared.version.Version.{Version}
 use Rattle.group.specs.Model.Events.{Done, Shown, Ticket, open_snapshot, read, close}
 use Rattle.group.specs.Model.Groups.{GroupState, SeatState, partition_of, seat_at, session_at, with_seat, with_server}

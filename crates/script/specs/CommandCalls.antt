@@ -3,7 +3,7 @@ use Rattle.std.specs.Prelude.{ℕ, Ok, Err, Result}
 use Rattle.stamps.specs.declared.refusal.Refusal.{Refusal}
 use Rattle.stamps.specs.declared.refusal.Refusal.TheVariants.{LayoutMisplaced}
 use Rattle.stamps.specs.Kinds.{Kind}
-use Rattle.servers.specs.Servers.{Rule}
+use Rattle.stamps.specs.Clocks.{Rule}
 use Rattle.group.specs.Model.Events as call
 use Rattle.group.specs.Model.Events.{Call, Outcome, Ticket}
 use Rattle.group.specs.Model.Groups.{GroupState}

@@ -6,7 +6,7 @@ use Rattle.stamps.specs.Clocks as clocks
 use Rattle.stamps.specs.Outside.{and_then}
 use Rattle.stamps.specs.Kinds.{Kind}
 use Rattle.stamps.specs.BuiltKinds.{one_kind, each_kind}
-use Rattle.servers.specs.Servers.{Rule}
+use Rattle.stamps.specs.Clocks.{Rule}
 use Rattle.group.specs.Model.Groups as model
 use Rattle.group.specs.Model.Groups.{GroupState}
 use Rattle.group.specs.Groups as group

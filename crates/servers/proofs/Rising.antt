@@ -3,7 +3,7 @@ use Rattle.std.proofs.Common.{◌≡◌, ℕ, ◌^◌, ◌<◌, true, not, eqb, 
 use Rattle.std.proofs.lemmas.Bool.{and_parts, cond_both, cond-true, eqb-false, lt-ltb, ltb-true, not-true}
 use Rattle.stamps.specs.declared.refusal.Refusal.{Refusal}
 use Rattle.stamps.specs.declared.refusal.Refusal.TheVariants.{Unlawful}
-use Rattle.stamps.specs.Clocks.{IsAllowed, IsLawfulRule}
+use Rattle.stamps.specs.Clocks.{Rule, IsAllowed, IsLawfulRule}
 use Rattle.stamps.specs.Rows.{PerSite, HasStamps, at, greatest, with_entry}
 use Rattle.stamps.specs.Stamps.{top_stamp}
 use Rattle.stamps.specs.Kinds.{Kind}
@@ -12,7 +12,7 @@ use Rattle.servers.specs.declared.entry.Entry.TheVariants.{Heartbeat, Update}
 use Rattle.servers.specs.Laws.{ServerCall, IsIn, HasStampMarks, ServerRun, IsRising, StampsRise, beat, run_after, hand_over, server_run, newest, put, raise, report, run_with_stamp, take_from, tell, tidy, run_without_stamp}
 use Rattle.servers.specs.Others.{is_other}
 use Rattle.servers.specs.Outboxes.{is_outbox_full}
-use Rattle.servers.specs.Servers.{Rule, ServerState, server_heartbeat_with, first_entry, first_received, server_keep, last_of, server_put_with, server_receive, server_take_other, server_tell_checked}
+use Rattle.servers.specs.Servers.{ServerState, server_heartbeat_with, first_entry, first_received, server_keep, last_of, server_put_with, server_receive, server_take_other, server_tell_checked}
 use Rattle.servers.specs.Tables.{is_table_full}
 use Rattle.servers.specs.declared.value.Value.{Value}
 use Rattle.servers.specs.declared.version.Version.{Version}

@@ -7,7 +7,8 @@ use Rattle.stamps.specs.Rows.{PerSite, HasStamps}
 use Rattle.servers.specs.declared.entry.Entry.{Entry}
 use Rattle.servers.specs.Others.{is_other}
 use Rattle.servers.specs.Outboxes.{Queues, first, issue_entry, empty_queues, is_outbox_full, take_entry}
-use Rattle.servers.specs.Servers.{Rule, ServerState, server_heartbeat, new_server, server_hand_over, last_of, server_put, server_raise, server_report, server_take, server_tidy, server_tell}
+use Rattle.servers.specs.Servers.{ServerState, server_heartbeat, new_server, server_hand_over, last_of, server_put, server_raise, server_report, server_take, server_tidy, server_tell}
+use Rattle.stamps.specs.Clocks.{Rule}
 use Rattle.servers.specs.Tables.{is_covered}
 use Rattle.servers.specs.Versions.{stamp_answered}
 use Rattle.servers.specs.declared.value.Value.{Value}
@@ -96,7 +97,7 @@ pub record IsQueue (own sites : ℕ) (t : Traffic) : Type 0 where
 abbrev pub StaysQueue : ℕ → ℕ → Type 0
 StaysQueue own sites = (moves : List Move) → IsQueue own sites (traffic own sites moves)
 
--- The calls that change a server, in plain numbers.
+-- The calls that change a server, as plain data.
 pub data ServerCall : Type 0 where
   -- the reading
   tell : ℕ → ServerCall

@@ -20,7 +20,7 @@ one_more own sites x =
       site3 = x.site3 + one_if_other own sites 3;
     }
 
--- a site that is no other site of the layout has none
+-- a site that is no other site of the layout has none to take
 abbrev pub IsOthersOnly : ℕ → ℕ → PerSite → Type 0
 IsOthersOnly own sites left =
     (is_other own sites 0 ≡ false → left.site0 ≡ 0)

@@ -1,8 +1,9 @@
--- One server: its state in plain numbers, and its part of each call.
+-- One server: its state as plain data, and its part of each call.
 use Rattle.std.specs.Prelude.{ℕ, Bool, if◌then◌else◌, List, [], ◌∷◌, ◌++◌, ℤ, pos, ◌-ℤ◌, Ok, Err, Option, Result, nat_lt}
 use Rattle.stamps.specs.declared.refusal.Refusal.{Refusal}
 use Rattle.stamps.specs.declared.refusal.Refusal.TheVariants.{NotInLayout, ReadingBehind, TableFull, OutboxFull}
 use Rattle.stamps.specs.Checks.{checked_reading}
+use Rattle.stamps.specs.Clocks.{Rule}
 use Rattle.stamps.specs.Kinds.{Kind}
 use Rattle.stamps.specs.Rows.{PerSite, at, greatest, join, same, with_entry}
 use Rattle.stamps.specs.Stamps.{top_stamp, time_of}
@@ -14,10 +15,6 @@ use Rattle.servers.specs.Outboxes.{Queues, issue_entry, empty_queues, is_outbox_
 use Rattle.servers.specs.Tables.{is_covered, latest, is_table_full, table_tidy, is_visible}
 use Rattle.servers.specs.declared.value.Value.{Value}
 use Rattle.servers.specs.declared.version.Version.{Version}
-
--- what a clock rule answers to a last stamp, a reading and a dependency stamp
-abbrev pub Rule : Type 0
-Rule = ℕ → ℕ → ℕ → Result ℕ Refusal
 
 -- the marks, as their rows
 pub record MarksState : Type 0 where

@@ -24,12 +24,12 @@ is_covered k mark v = covers mark (full_mark k v)
 abbrev pub is_visible : Kind → ℕ → PerSite → Version → Bool
 is_visible k site stable v = v.source == site || is_covered k stable v
 
--- the better of what was found before and one version more: it has to be of the key, and shown
+-- the better of what was found before and one version more: it has to be of the key, and pass the test
 abbrev pub better_of : (Version → Bool) → ℕ → Option Version → Version → Option Version
 better_of test key None v = if v.key == key && test v then Some v else None
 better_of test key (Some best) v = if v.key == key && (test v && is_later v best) then Some v else Some best
 
--- the latest of a key that is shown
+-- the latest of a key that passes the test
 abbrev pub latest_from : (Version → Bool) → ℕ → Option Version → List Version → Option Version
 latest_from test key found [] = found
 latest_from test key found (v ∷ vs) = latest_from test key (better_of test key found v) vs

@@ -97,7 +97,7 @@ impl Outbox {
     }
 }
 
-// Keeps the last entries, so many of them, of which at most one more is there.
+// Keeps the last entries, so many of them; at most one more is there.
 fn keep_last(entries: &mut ArrayVec<Entry, MOST_ENTRIES>, count: usize)
     requires { length entries.old.items ≤ count + 1 }
     ensures { entries.new.items ≡ drop (length entries.old.items - count) entries.old.items }

@@ -5,17 +5,21 @@ use Rattle.stamps.specs.declared.refusal.Refusal.{Refusal}
 use Rattle.stamps.specs.declared.refusal.Refusal.TheVariants.{Early, End}
 use Rattle.stamps.specs.Stamps.{top_stamp, stamp_of, time_of, count_of}
 
+-- what a rule answers to a last stamp, a reading and a dependency stamp
+abbrev pub Rule : Type 0
+Rule = ℕ → ℕ → ℕ → Result ℕ Refusal
+
 -- what a rule may answer: a stamp above both that it was given, or early, or end
 abbrev pub IsAllowed : ℕ → ℕ → Result ℕ Refusal → Type 0
 IsAllowed last dependency (Ok stamp) = (last < stamp) × (dependency < stamp) × (stamp < 2 ^ 63)
 IsAllowed last dependency (Err why) = (why ≡ Early) ⊎ (why ≡ End)
 
-pub record IsLawfulRule (answer : ℕ → ℕ → ℕ → Result ℕ Refusal) : Type 0 where
+pub record IsLawfulRule (answer : Rule) : Type 0 where
   pub allowed : (last reading dependency : ℕ) → last < 2 ^ 63 → reading < 2 ^ 47 → dependency < 2 ^ 63
       → IsAllowed last dependency (answer last reading dependency)
 
 -- raw: the reading's first stamp, if that is above both
-abbrev pub raw_rule : ℕ → ℕ → ℕ → Result ℕ Refusal
+abbrev pub raw_rule : Rule
 raw_rule last reading dependency =
     let stamp = stamp_of reading 0 in
     if nat_le stamp last || nat_le stamp dependency then Err Early else Ok stamp
@@ -36,7 +40,7 @@ abbrev pub carry : ℕ → ℕ → ℕ
 carry time count = if nat_lt 65535 count then stamp_of (time + 1) 0 else stamp_of time count
 
 -- hybrid: the stamp of this time and count, which is above both; none is above the top stamp
-abbrev pub hybrid_rule : ℕ → ℕ → ℕ → Result ℕ Refusal
+abbrev pub hybrid_rule : Rule
 hybrid_rule last reading dependency =
     let time = new_time last reading dependency in
     let count = new_count (time_of last == time) (time_of dependency == time) (count_of last) (count_of dependency) in

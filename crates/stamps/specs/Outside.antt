@@ -3,6 +3,7 @@ use Rattle.std.specs.Prelude.{ℕ, ℤ, pos, neg_ℤ, Ok, Err, Result, List}
 use Rattle.stamps.specs.declared.refusal.Refusal.{Refusal}
 use Rattle.stamps.specs.Refusals.{number_of}
 use Rattle.stamps.specs.Checks.{checked_stamp, checked_reading, checked_site, checked_row}
+use Rattle.stamps.specs.Clocks.{Rule}
 use Rattle.stamps.specs.Rows.{PerSite}
 use Rattle.stamps.specs.Kinds.{Kind}
 
@@ -11,7 +12,7 @@ abbrev pub and_then : {A B : Type 0} → Result A Refusal → (A → Result B Re
 and_then (Ok x) next = next x
 and_then (Err why) next = Err why
 
-abbrev pub stamp_from : (ℕ → ℕ → ℕ → Result ℕ Refusal) → ℕ → ℕ → ℕ → Result ℕ Refusal
+abbrev pub stamp_from : Rule → ℕ → ℕ → ℕ → Result ℕ Refusal
 stamp_from rule last reading dependency =
     and_then (checked_stamp last) (λ l.
     and_then (checked_stamp dependency) (λ d.

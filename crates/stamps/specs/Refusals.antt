@@ -1,5 +1,5 @@
--- The number of each refusal, and that a refusal changes nothing.
-use Rattle.std.specs.Prelude.{◌≡◌, ℕ, Ok, Err, Result}
+-- The number of each refusal.
+use Rattle.std.specs.Prelude.{ℕ}
 use Rattle.stamps.specs.declared.refusal.Refusal.{Refusal}
 use Rattle.stamps.specs.declared.refusal.Refusal.TheVariants.{NotInLayout, NoSession, Unlawful, ReadingBehind}
 use Rattle.stamps.specs.declared.refusal.Refusal.TheVariants.{TableFull, OutboxFull, Early, End, NothingWaits, NoneFree}
@@ -23,8 +23,3 @@ number_of ShortCommand = 13
 number_of UnknownLetter = 14
 number_of LayoutMisplaced = 15
 number_of ShortBuffer = 16
-
--- where the answer is a refusal, the state is as it was
-abbrev pub RefusalKeeps : {A S : Type 0} → Result A Refusal → S → S → Type 0
-RefusalKeeps (Ok answer) before after = Unit {0}
-RefusalKeeps (Err why) before after = after ≡ before

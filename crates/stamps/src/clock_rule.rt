@@ -1,7 +1,6 @@
 //! What a clock rule is.
-ghost use Rattle.std.specs.Prelude.{◌≡◌, ℕ, Result};
-ghost use Rattle.stamps.specs.declared.refusal.Refusal.{Refusal};
-ghost use Rattle.stamps.specs.Clocks.{IsAllowed, IsLawfulRule};
+ghost use Rattle.std.specs.Prelude.{◌≡◌};
+ghost use Rattle.stamps.specs.Clocks.{IsAllowed, IsLawfulRule, Rule};
 
 use crate::issued_stamp::IssuedStamp;
 use crate::reading::Reading;
@@ -11,7 +10,7 @@ use crate::stamp::Stamp;
 /// A way to make the next stamp of a server.
 pub trait ClockRule {
     // What the rule answers to a last stamp, a reading and a dependency stamp.
-    ghost answer: { ℕ → ℕ → ℕ → Result ℕ Refusal };
+    ghost answer: { Rule };
 
     /// The next stamp, above the server's last one and above what it depends on; or `Early`, or `End`.
     // The three are all that a rule is asked. No struct has them: nothing keeps them together before or after.

@@ -2,14 +2,16 @@
 ghost use Rattle.std.specs.Prelude.{◌≡◌, ◌≤◌};
 
 use crate::stamp::Stamp;
+use std::fmt;
+use std::fmt::{Debug, Formatter};
 use std::marker::Model;
 
-/// A stamp that a clock rule has given: at least 1, since it is above the stamp before it.
+/// A stamp that a clock rule may give: at least 1, since it is above the stamp before it.
 ///
 /// The default is the least one, 0.1, for unused places of tables.
-// It is kept as the stamp before it: so the default is all zero bits, and a table of them is cleared at once.
-#[derive(Clone, Copy, Debug, Default, PartialEq, Eq, Hash)]
+#[derive(Clone, Copy, Default, PartialEq, Eq, Hash)]
 pub struct IssuedStamp {
+    // One less than the stamp: so the default is all zero bits, and a table of them is cleared at once.
     before: u64,
 }
 
@@ -34,6 +36,13 @@ impl IssuedStamp {
         IssuedStamp {
             before: stamp.value() - 1,
         }
+    }
+}
+
+/// Shown as its stamp.
+impl Debug for IssuedStamp {
+    fn fmt<W: fmt::Write>(&self, f: &mut Formatter<W>) -> fmt::Result {
+        Stamp::from(*self).fmt(f)
     }
 }
 

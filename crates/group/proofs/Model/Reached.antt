@@ -4,7 +4,7 @@ use Rattle.std.proofs.Math.Logic.{∥∥₁_map}
 use Rattle.std.proofs.lemmas.Bool.{cond_both}
 use Rattle.stamps.specs.declared.refusal.Refusal.{Refusal}
 use Rattle.stamps.specs.declared.refusal.Refusal.TheVariants.{NotInLayout, NoSession, NoneFree, NothingWaits, NotOpen, End}
-use Rattle.stamps.specs.Clocks.{IsLawfulRule}
+use Rattle.stamps.specs.Clocks.{Rule, IsLawfulRule}
 use Rattle.stamps.specs.Kinds.{Kind, IsLawfulKind}
 use Rattle.servers.specs.declared.version.Version.{Version}
 use Rattle.servers.specs.declared.entry.Entry.{Entry}
@@ -12,7 +12,7 @@ use Rattle.servers.specs.declared.value.Value.{Value}
 use Rattle.servers.specs.Outboxes.{next_for}
 use Rattle.servers.specs.Values.{value_from}
 use Rattle.stamps.specs.CommonFloors.{common_floor}
-use Rattle.servers.specs.Servers.{Rule, ServerState, server_tell, server_heartbeat, server_report, server_raise, server_tidy, lead_of, latest_visible}
+use Rattle.servers.specs.Servers.{ServerState, server_tell, server_heartbeat, server_report, server_raise, server_tidy, lead_of, latest_visible}
 use Rattle.group.specs.Model.Calls.{step, has_server, server_left, on_server, on_session, on_seat_of, put_left, put_value, informed_server, learn, open_snapshot_at, show, deliver_entry, deliver_left, with_ok, safe_mark}
 use Rattle.group.specs.Model.Events.{Call, Answer, Done, open_session, tell, put, get, heartbeat, deliver, report, stabilise, open_snapshot, read, close, tidy, lead}
 use Rattle.group.specs.Model.Groups.{GroupState, SessionState, SeatState, new_group, new_session, partition_of, session_at, seat_at, with_seat, with_sessions, is_line, lowest_free, reported_at}

@@ -3,11 +3,11 @@ use Rattle.std.proofs.Common.{◌≡◌, ℕ, ◌^◌, ◌<◌, ltb, List, [], �
 use Rattle.std.proofs.lemmas.Bool.{cond_both}
 use Rattle.stamps.specs.declared.refusal.Refusal.{Refusal}
 use Rattle.stamps.specs.declared.refusal.Refusal.TheVariants.{NotInLayout}
-use Rattle.stamps.specs.Clocks.{IsLawfulRule}
+use Rattle.stamps.specs.Clocks.{Rule, IsLawfulRule}
 use Rattle.stamps.specs.Rows.{HasStamps, same}
 use Rattle.stamps.specs.Stamps.{top_stamp}
 use Rattle.stamps.specs.Kinds.{Kind, IsLawfulKind}
-use Rattle.servers.specs.Servers.{Rule, first_entry, first_received, lead_of}
+use Rattle.servers.specs.Servers.{first_entry, first_received, lead_of}
 use Rattle.servers.proofs.RowEntries.{by_site}
 use Rattle.group.specs.Model.Calls.{step, has_server}
 use Rattle.group.specs.Model.Events.{Call, open_session, tell, put, get, heartbeat, deliver, report, stabilise, open_snapshot, read, close, tidy, lead, what_is_told, nothing, History}

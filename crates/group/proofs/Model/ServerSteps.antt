@@ -4,7 +4,7 @@ use Rattle.std.proofs.lemmas.List.{length-append, length-drop}
 use Rattle.std.proofs.lemmas.Bool.{and_parts, and_cases, cond_both, eqb-false, leb-false, ltb-true, not-true, or_parts, both_ways}
 use Rattle.stamps.specs.declared.refusal.Refusal.{Refusal}
 use Rattle.stamps.specs.declared.refusal.Refusal.TheVariants.{NotInLayout, Unlawful, ReadingBehind, TableFull, OutboxFull}
-use Rattle.stamps.specs.Clocks.{IsAllowed, IsLawfulRule}
+use Rattle.stamps.specs.Clocks.{Rule, IsAllowed, IsLawfulRule}
 use Rattle.stamps.specs.Rows.{PerSite, Covers, HasStamps, at, with_entry}
 use Rattle.stamps.specs.CommonFloors.{common_floor}
 use Rattle.stamps.specs.Kinds.{Kind, IsMark, IsLawfulKind}
@@ -14,7 +14,7 @@ use Rattle.servers.specs.declared.entry.Entry.TheVariants.{Update, Heartbeat}
 use Rattle.servers.specs.Laws.{IsIn}
 use Rattle.servers.specs.Others.{is_other}
 use Rattle.servers.specs.Outboxes.{Queues, first, is_queue_full, issue_entry, next_for, is_outbox_full, take_entry}
-use Rattle.servers.specs.Servers.{Rule, MarksState, ServerState, server_tell, server_tell_checked, server_heartbeat, server_heartbeat_with, last_of, server_issue, server_keep, server_receive as receiving_server, server_take, server_take_other, server_hand_over, server_raise, server_report, server_tidy}
+use Rattle.servers.specs.Servers.{MarksState, ServerState, server_tell, server_tell_checked, server_heartbeat, server_heartbeat_with, last_of, server_issue, server_keep, server_receive as receiving_server, server_take, server_take_other, server_hand_over, server_raise, server_report, server_tidy}
 use Rattle.servers.specs.Tables.{is_table_full}
 use Rattle.servers.specs.declared.version.Version.{Version}
 use Rattle.servers.proofs.RowEntries.{by_site}

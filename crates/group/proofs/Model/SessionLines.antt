@@ -4,12 +4,12 @@ use Rattle.std.specs.List.{flat_map}
 use Rattle.std.proofs.lemmas.Bool.{cond_both, cond-true, eq-eqb, lt-ltb, ltb-true, or_left, or_right}
 use Rattle.stamps.specs.declared.refusal.Refusal.{Refusal}
 use Rattle.stamps.specs.declared.refusal.Refusal.TheVariants.{NoSession, TableFull, OutboxFull}
-use Rattle.stamps.specs.Clocks.{IsAllowed, IsLawfulRule}
+use Rattle.stamps.specs.Clocks.{Rule, IsAllowed, IsLawfulRule}
 use Rattle.stamps.specs.Rows.{PerSite, Covers, at, greatest, join}
 use Rattle.stamps.specs.Kinds.{Kind, IsMark, IsLawfulKind}
 use Rattle.servers.specs.Laws.{IsIn, IsLatest, Passes}
 use Rattle.servers.specs.Outboxes.{is_outbox_full}
-use Rattle.servers.specs.Servers.{Rule, ServerState, last_of, latest_visible, server_put_with, sees}
+use Rattle.servers.specs.Servers.{ServerState, last_of, latest_visible, server_put_with, sees}
 use Rattle.servers.specs.Tables.{is_table_full}
 use Rattle.servers.specs.Values.{value_from}
 use Rattle.servers.specs.declared.value.Value.{Value}

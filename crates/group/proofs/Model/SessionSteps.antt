@@ -4,13 +4,13 @@ use Rattle.std.proofs.lemmas.List.{length-append}
 use Rattle.std.proofs.lemmas.Bool.{cond_both, eqb-true, leb-false, ltb-true, or_cases}
 use Rattle.stamps.specs.declared.refusal.Refusal.{Refusal}
 use Rattle.stamps.specs.declared.refusal.Refusal.TheVariants.{NotInLayout, NoSession, NoneFree, TableFull, OutboxFull}
-use Rattle.stamps.specs.Clocks.{IsAllowed, IsLawfulRule}
+use Rattle.stamps.specs.Clocks.{Rule, IsAllowed, IsLawfulRule}
 use Rattle.stamps.specs.Rows.{PerSite, Covers, at, greatest, join, with_entry}
 use Rattle.stamps.specs.Kinds.{Kind, IsMark, IsLawfulKind}
 use Rattle.servers.specs.declared.entry.Entry.TheVariants.{Update}
 use Rattle.servers.specs.Laws.{IsIn, IsLatest}
 use Rattle.servers.specs.Outboxes.{is_outbox_full}
-use Rattle.servers.specs.Servers.{Rule, ServerState, server_put_with, put_version, server_issue, server_keep, last_of, server_raise as raised_server, sees, latest_visible}
+use Rattle.servers.specs.Servers.{ServerState, server_put_with, put_version, server_issue, server_keep, last_of, server_raise as raised_server, sees, latest_visible}
 use Rattle.servers.specs.Tables.{is_covered, is_table_full}
 use Rattle.servers.specs.Values.{value_from}
 use Rattle.servers.specs.declared.value.Value.{Value}

@@ -3,11 +3,11 @@ use Rattle.std.proofs.Common.{◌≡◌, ℕ, ◌<◌, eqb, List, ◌∷◌, Som
 use Rattle.std.proofs.lemmas.Bool.{cond_both, cond-true, eq-eqb}
 use Rattle.stamps.specs.declared.refusal.Refusal.{Refusal}
 use Rattle.stamps.specs.declared.refusal.Refusal.TheVariants.{NotOpen}
-use Rattle.stamps.specs.Clocks.{IsLawfulRule}
+use Rattle.stamps.specs.Clocks.{Rule, IsLawfulRule}
 use Rattle.stamps.specs.Rows.{PerSite, Covers}
 use Rattle.stamps.specs.Kinds.{Kind, IsLawfulKind}
 use Rattle.servers.specs.Laws.{IsIn, IsLatest}
-use Rattle.servers.specs.Servers.{Rule, latest_covered, server_raise as raised_server}
+use Rattle.servers.specs.Servers.{latest_covered, server_raise as raised_server}
 use Rattle.servers.specs.Tables.{is_covered}
 use Rattle.servers.specs.Versions.{full_mark}
 use Rattle.servers.specs.declared.version.Version.{Version}

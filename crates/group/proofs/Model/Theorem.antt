@@ -1,8 +1,7 @@
 -- A group keeps its promises, for every clock rule and every kind of mark that show their meaning.
 use Rattle.std.proofs.Common.{ℕ, ◌<◌, [], Some, None, sym, refl, subst}
-use Rattle.stamps.specs.Clocks.{IsLawfulRule}
+use Rattle.stamps.specs.Clocks.{Rule, IsLawfulRule}
 use Rattle.stamps.specs.Kinds.{Kind, IsLawfulKind}
-use Rattle.servers.specs.Servers.{Rule}
 use Rattle.group.specs.Model.Groups.{new_group}
 use Rattle.group.specs.Model.GroupStore.{IsLayoutBounded, GroupKeepsPromises, group_store, versions_at}
 use Rattle.group.specs.Model.Promises.{Promises, ShowsAsLate}

@@ -8,7 +8,8 @@ use Rattle.stamps.specs.Rows.{PerSite, join}
 use Rattle.stamps.specs.Kinds.{Kind}
 use Rattle.servers.specs.declared.entry.Entry.{Entry}
 use Rattle.servers.specs.Outboxes.{next_for}
-use Rattle.servers.specs.Servers.{Rule, ServerState, server_tell, server_heartbeat, server_put}
+use Rattle.servers.specs.Servers.{ServerState, server_tell, server_heartbeat, server_put}
+use Rattle.stamps.specs.Clocks.{Rule}
 use Rattle.servers.specs.Servers.{server_take, server_hand_over, lead_of, server_raise, server_report, latest_visible}
 use Rattle.servers.specs.Servers.{latest_covered, server_tidy}
 use Rattle.servers.specs.Values.{value_from}
@@ -81,7 +82,8 @@ with_depends x depends = record x { depends = depends }
 abbrev pub shown_of : Version → Shown
 shown_of v = record { value = v.value; stamp = v.stamp; source = v.source }
 
--- a session depends on a version from then on
+-- a session depends on a version from then on; after its own put this is the version's full mark, which covers all that
+-- the session depended on before
 abbrev pub depend : Kind → GroupState → ℕ → Version → GroupState
 depend k g i v =
     let x = session_at g i in

@@ -5,7 +5,8 @@ use Rattle.stamps.specs.Rows.{HasStamps}
 use Rattle.stamps.specs.Kinds.{Kind, IsMark}
 use Rattle.servers.specs.declared.entry.Entry.{Entry}
 use Rattle.servers.specs.declared.entry.Entry.TheVariants.{Update, Heartbeat}
-use Rattle.servers.specs.Servers.{Rule, ServerState, sees}
+use Rattle.servers.specs.Servers.{ServerState, sees}
+use Rattle.stamps.specs.Clocks.{Rule}
 use Rattle.servers.specs.Laws.{IsIn}
 use Rattle.servers.specs.declared.value.Value.{Value}
 use Rattle.servers.specs.declared.value.Value.TheVariants.{Gone, Price, Percent, Basis}
@@ -39,7 +40,8 @@ IsInRange (Percent percent) = percent.hundredths ≤ 10000
 IsInRange (Basis Part) = Unit {0}
 IsInRange (Basis Sheet) = Unit {0}
 
--- Of a key nothing is asked here: its 16 bits are its type's in the code, and a call may be made with any.
+-- Of a key nothing is asked here: its 16 bits are its type's in the code, and a call may be made with any. The range of a
+-- percentage is its type's too.
 pub record IsVersionBounded (k : Kind) (sites : ℕ) (v : Version) : Type 0 where
   pub value : IsInRange v.value
   pub stamp : v.stamp < 2 ^ 63

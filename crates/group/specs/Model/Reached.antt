@@ -1,7 +1,7 @@
 -- The groups that calls lead to.
 use Rattle.std.specs.Prelude.{◌≡◌, ℕ, List, []}
 use Rattle.stamps.specs.Kinds.{Kind}
-use Rattle.servers.specs.Servers.{Rule}
+use Rattle.stamps.specs.Clocks.{Rule}
 use Rattle.group.specs.Model.Events.{Call}
 use Rattle.group.specs.Model.Groups.{GroupState, new_group}
 use Rattle.group.specs.Model.GroupStore.{IsLayoutBounded, group_store}

@@ -1,6 +1,5 @@
 //! The calls on a server's clock.
-ghost use Rattle.std.specs.Prelude.{◌≡◌};
-ghost use Rattle.stamps.specs.Refusals.{RefusalKeeps};
+ghost use Rattle.std.specs.Prelude.{◌≡◌, OnErr};
 ghost use Rattle.group.specs.Model.Calls.{IsStep};
 ghost use Rattle.group.specs.Model.Events as call;
 ghost use Rattle.group.specs.Parts.{view};
@@ -15,7 +14,7 @@ impl<C: ClockRule, K: MarkKind> GroupParts<C, K> {
     // The physical clock of a server shows a new time.
     pub(crate) fn tell(&mut self, site: u8, partition: u8, time: u64) -> Result<(), Refusal>
         ensures step { IsStep C.answer K.kind (view self.old) (call.tell site partition time) result (view self.new) }
-        ensures keeps { RefusalKeeps result (view self.old) (view self.new) }
+        ensures keeps { OnErr result (view self.new ≡ view self.old) }
     {
         let place = self.layout.place(site, partition)?;
         self.servers[place.index()].tell(time)
@@ -24,7 +23,7 @@ impl<C: ClockRule, K: MarkKind> GroupParts<C, K> {
     // A new stamp of a server for the other sites.
     pub(crate) fn heartbeat(&mut self, site: u8, partition: u8) -> Result<Stamp, Refusal>
         ensures step { IsStep C.answer K.kind (view self.old) (call.heartbeat site partition) result (view self.new) }
-        ensures keeps { RefusalKeeps result (view self.old) (view self.new) }
+        ensures keeps { OnErr result (view self.new ≡ view self.old) }
     {
         let place = self.layout.place(site, partition)?;
         self.servers[place.index()].heartbeat()

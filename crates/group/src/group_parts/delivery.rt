@@ -1,6 +1,5 @@
 //! The delivery of entries from site to site.
-ghost use Rattle.std.specs.Prelude.{◌≡◌};
-ghost use Rattle.stamps.specs.Refusals.{RefusalKeeps};
+ghost use Rattle.std.specs.Prelude.{◌≡◌, OnErr};
 ghost use Rattle.group.specs.Model.Calls.{IsStep};
 ghost use Rattle.group.specs.Model.Events as call;
 ghost use Rattle.group.specs.Parts.{view};
@@ -14,7 +13,7 @@ impl<C: ClockRule, K: MarkKind> GroupParts<C, K> {
     // A site takes the next entry that waits for it at another site's server.
     pub(crate) fn deliver(&mut self, from: u8, to: u8, partition: u8) -> Result<(), Refusal>
         ensures step { IsStep C.answer K.kind (view self.old) (call.deliver from to partition) result (view self.new) }
-        ensures keeps { RefusalKeeps result (view self.old) (view self.new) }
+        ensures keeps { OnErr result (view self.new ≡ view self.old) }
     {
         let (from, to) = self.layout.line(from, to, partition)?;
         let Some(entry) = self.server(from).next_for(to.site) else {

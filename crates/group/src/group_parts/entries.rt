@@ -1,6 +1,5 @@
 //! The calls of sessions on keys.
-ghost use Rattle.std.specs.Prelude.{◌≡◌, ◌<◌, length};
-ghost use Rattle.stamps.specs.Refusals.{RefusalKeeps};
+ghost use Rattle.std.specs.Prelude.{◌≡◌, ◌<◌, length, OnErr};
 ghost use Rattle.group.specs.Model.Groups.{session_at};
 ghost use Rattle.group.specs.Model.Calls.{IsStep, put_value};
 ghost use Rattle.group.specs.Model.Events as call;
@@ -27,7 +26,7 @@ impl<C: ClockRule, K: MarkKind> GroupParts<C, K> {
     ) -> Result<Stamp, Refusal>
         ensures step { IsStep C.answer K.kind (view self.old) (call.put session key kind amount) result
             (view self.new) }
-        ensures keeps { RefusalKeeps result (view self.old) (view self.new) }
+        ensures keeps { OnErr result (view self.new ≡ view self.old) }
     {
         if !self.has_session(session) {
             return Err(Refusal::NoSession);
@@ -41,7 +40,7 @@ impl<C: ClockRule, K: MarkKind> GroupParts<C, K> {
         requires { number < length (view self.old).sessions }
         ensures step { let session = session_at (view self.old) number in
             (result, view self.new) ≡ put_value C.answer K.kind (view self.old) number key session (Ok value) }
-        ensures keeps { RefusalKeeps result (view self.old) (view self.new) }
+        ensures keeps { OnErr result (view self.new ≡ view self.old) }
     {
         let session = self.session_at(number);
         let place = Place {
@@ -57,7 +56,7 @@ impl<C: ClockRule, K: MarkKind> GroupParts<C, K> {
     // The latest version of a key that the session's server shows, or none.
     pub(crate) fn get(&mut self, session: u8, key: u16) -> Result<Option<Shown>, Refusal>
         ensures step { IsStep C.answer K.kind (view self.old) (call.get session key) result (view self.new) }
-        ensures keeps { RefusalKeeps result (view self.old) (view self.new) }
+        ensures keeps { OnErr result (view self.new ≡ view self.old) }
     {
         if !self.has_session(session) {
             return Err(Refusal::NoSession);

@@ -1,6 +1,5 @@
 //! The sessions of a group.
-ghost use Rattle.std.specs.Prelude.{◌≡◌, ◌<◌, length, nat_lt, slice_get};
-ghost use Rattle.stamps.specs.Refusals.{RefusalKeeps};
+ghost use Rattle.std.specs.Prelude.{◌≡◌, ◌<◌, length, nat_lt, slice_get, OnErr};
 ghost use Rattle.group.specs.Model.Calls.{IsStep, learn, depend, show};
 ghost use Rattle.group.specs.Model.Events as call;
 ghost use Rattle.group.specs.Model.Groups.{with_session, session_at};
@@ -20,7 +19,7 @@ impl<C: ClockRule, K: MarkKind> GroupParts<C, K> {
     // A new session at a site. Its number is how many were opened before it.
     pub(crate) fn open_session(&mut self, site: u8) -> Result<u8, Refusal>
         ensures step { IsStep C.answer K.kind (view self.old) (call.open_session site) result (view self.new) }
-        ensures keeps { RefusalKeeps result (view self.old) (view self.new) }
+        ensures keeps { OnErr result (view self.new ≡ view self.old) }
     {
         let site = self.layout.site(site)?;
         let number = self.sessions.len() as u8;

@@ -1,6 +1,5 @@
 //! The calls on snapshots.
-ghost use Rattle.std.specs.Prelude.{◌≡◌, suc, ◌-◌, ◌^◌, ◌<◌, length, IfOk};
-ghost use Rattle.stamps.specs.Refusals.{RefusalKeeps};
+ghost use Rattle.std.specs.Prelude.{◌≡◌, suc, ◌-◌, ◌^◌, ◌<◌, length, IfOk, OnErr};
 ghost use Rattle.group.specs.Model.Groups.{seat_at, with_seat};
 ghost use Rattle.group.specs.Model.Calls.{HasOpen, IsStep};
 ghost use Rattle.group.specs.Model.Events as call;
@@ -23,7 +22,7 @@ impl<C: ClockRule, K: MarkKind> GroupParts<C, K> {
     pub(crate) fn open_snapshot(&mut self, session: u8, partition: u8) -> Result<Ticket, Refusal>
         ensures step { IsStep C.answer K.kind (view self.old) (call.open_snapshot session partition) result
             (view self.new) }
-        ensures keeps { RefusalKeeps result (view self.old) (view self.new) }
+        ensures keeps { OnErr result (view self.new ≡ view self.old) }
         ensures open { IfOk result (HasOpen (view self.new)) }
     {
         let partition = self.layout.partition(partition)?;
@@ -78,7 +77,7 @@ impl<C: ClockRule, K: MarkKind> GroupParts<C, K> {
     // The latest version of a key that the snapshot's cut covers, or none.
     pub(crate) fn read(&mut self, ticket: &Ticket, key: u16) -> Result<Option<Shown>, Refusal>
         ensures step { IsStep C.answer K.kind (view self.old) (call.read ticket.now key) result (view self.new) }
-        ensures keeps { RefusalKeeps result (view self.old) (view self.new) }
+        ensures keeps { OnErr result (view self.new ≡ view self.old) }
     {
         let seat = self.open_seat(ticket)?;
         let place = Place {
@@ -96,7 +95,7 @@ impl<C: ClockRule, K: MarkKind> GroupParts<C, K> {
     // The end of a snapshot. The ticket is taken in either case, done or refused.
     pub(crate) fn close(&mut self, ticket: Ticket) -> Result<(), Refusal>
         ensures step { IsStep C.answer K.kind (view self.old) (call.close ticket) result (view self.new) }
-        ensures keeps { RefusalKeeps result (view self.old) (view self.new) }
+        ensures keeps { OnErr result (view self.new ≡ view self.old) }
     {
         // The ticket is taken apart before a refusal is answered, since it cannot be let go.
         let open = self.open_seat(&ticket);

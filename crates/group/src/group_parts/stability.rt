@@ -1,6 +1,5 @@
 //! The calls that raise the reported and the stable marks.
-ghost use Rattle.std.specs.Prelude.{◌≡◌};
-ghost use Rattle.stamps.specs.Refusals.{RefusalKeeps};
+ghost use Rattle.std.specs.Prelude.{◌≡◌, OnErr};
 ghost use Rattle.group.specs.Model.Calls.{IsStep};
 ghost use Rattle.group.specs.Model.Events as call;
 ghost use Rattle.group.specs.Parts.{view};
@@ -15,7 +14,7 @@ impl<C: ClockRule, K: MarkKind> GroupParts<C, K> {
     // A server tells its site how far it has received.
     pub(crate) fn report(&mut self, site: u8, partition: u8) -> Result<(), Refusal>
         ensures step { IsStep C.answer K.kind (view self.old) (call.report site partition) result (view self.new) }
-        ensures keeps { RefusalKeeps result (view self.old) (view self.new) }
+        ensures keeps { OnErr result (view self.new ≡ view self.old) }
     {
         let place = self.layout.place(site, partition)?;
         self.servers[place.index()].report();
@@ -25,7 +24,7 @@ impl<C: ClockRule, K: MarkKind> GroupParts<C, K> {
     // What every server of a site has reported is joined into the stable mark of one of them.
     pub(crate) fn stabilise(&mut self, site: u8, partition: u8) -> Result<(), Refusal>
         ensures step { IsStep C.answer K.kind (view self.old) (call.stabilise site partition) result (view self.new) }
-        ensures keeps { RefusalKeeps result (view self.old) (view self.new) }
+        ensures keeps { OnErr result (view self.new ≡ view self.old) }
     {
         let place = self.layout.place(site, partition)?;
         let rows = self.reported_rows(place.site);

@@ -1,6 +1,5 @@
 //! The dropping of versions.
-ghost use Rattle.std.specs.Prelude.{◌≡◌};
-ghost use Rattle.stamps.specs.Refusals.{RefusalKeeps};
+ghost use Rattle.std.specs.Prelude.{◌≡◌, OnErr};
 ghost use Rattle.group.specs.Model.Calls.{IsStep};
 ghost use Rattle.group.specs.Model.Events as call;
 ghost use Rattle.group.specs.Parts.{view};
@@ -15,7 +14,7 @@ impl<C: ClockRule, K: MarkKind> GroupParts<C, K> {
     // A server drops the versions that no snapshot of the site, open or yet to be opened, can need. Answers how many.
     pub(crate) fn tidy(&mut self, site: u8, partition: u8) -> Result<usize, Refusal>
         ensures step { IsStep C.answer K.kind (view self.old) (call.tidy site partition) result (view self.new) }
-        ensures keeps { RefusalKeeps result (view self.old) (view self.new) }
+        ensures keeps { OnErr result (view self.new ≡ view self.old) }
     {
         let place = self.layout.place(site, partition)?;
         let rows = self.safe_rows(place.site);

@@ -1,6 +1,5 @@
 //! A server's part of the calls that tell its clock, write, and send and take entries.
-ghost use Rattle.std.specs.Prelude.{◌≡◌, ◌==◌, true};
-ghost use Rattle.stamps.specs.Refusals.{RefusalKeeps};
+ghost use Rattle.std.specs.Prelude.{◌≡◌, ◌==◌, true, OnErr};
 ghost use Rattle.servers.specs.Laws.{IsAbove};
 ghost use Rattle.servers.specs.Others.{is_other};
 ghost use Rattle.servers.specs.Outboxes.{next_for};
@@ -27,7 +26,7 @@ impl<C: ClockRule, K: MarkKind> Server<C, K> {
     /// `Unlawful` from 2^47 on, and then `ReadingBehind` below the present reading.
     pub fn tell(&mut self, time: u64) -> Result<(), Refusal>
         ensures step { (result, view self.new) ≡ server_tell (view self.old) time }
-        ensures keeps { RefusalKeeps result (view self.old) (view self.new) }
+        ensures keeps { OnErr result (view self.new ≡ view self.old) }
     {
         let reading = Reading::try_from(time)?;
         if reading < self.reading {
@@ -45,7 +44,7 @@ impl<C: ClockRule, K: MarkKind> Server<C, K> {
     pub fn heartbeat(&mut self) -> Result<Stamp, Refusal>
         ensures step { (result, view self.new) ≡ server_heartbeat C.ClockRule.answer (view self.old) }
         ensures rises { IsAbove (last_of (view self.old)) result }
-        ensures keeps { RefusalKeeps result (view self.old) (view self.new) }
+        ensures keeps { OnErr result (view self.new ≡ view self.old) }
     {
         if self.outbox.is_full() {
             return Err(Refusal::OutboxFull);
@@ -74,7 +73,7 @@ impl<C: ClockRule, K: MarkKind> Server<C, K> {
             ≡ server_put C.ClockRule.answer K.MarkKind.kind (view self.old) key value
             (K.MarkKind.meaning depends) (K.MarkKind.meaning knows) }
         ensures rises { IsAbove (last_of (view self.old)) (stamp_answered result) }
-        ensures keeps { RefusalKeeps result (view self.old) (view self.new) }
+        ensures keeps { OnErr result (view self.new ≡ view self.old) }
     {
         if self.table.is_full() {
             return Err(Refusal::TableFull);
@@ -132,7 +131,7 @@ impl<C: ClockRule, K: MarkKind> Server<C, K> {
     /// `NotInLayout` if `from` is no other site of the layout, and then `TableFull` for a version while 32 are held.
     pub fn take(&mut self, from: Site, entry: Entry) -> Result<(), Refusal>
         ensures step { (result, view self.new) ≡ server_take (view self.old) from entry }
-        ensures keeps { RefusalKeeps result (view self.old) (view self.new) }
+        ensures keeps { OnErr result (view self.new ≡ view self.old) }
     {
         if !self.outbox.has_other(from) {
             return Err(Refusal::NotInLayout);
@@ -144,7 +143,7 @@ impl<C: ClockRule, K: MarkKind> Server<C, K> {
     fn take_other(&mut self, from: Site, entry: Entry) -> Result<(), Refusal>
         requires { is_other (view self.old).site (view self.old).sites from ≡ true }
         ensures step { (result, view self.new) ≡ server_take_other (view self.old) from entry }
-        ensures keeps { RefusalKeeps result (view self.old) (view self.new) }
+        ensures keeps { OnErr result (view self.new ≡ view self.old) }
     {
         if let Entry::Update(taken) = &entry {
             if self.table.is_full() {

@@ -1,5 +1,4 @@
-use Rattle.std.proofs.Common.{◌≡◌, subst}
-use Rattle.stamps.specs.Refusals.{RefusalKeeps}
+use Rattle.std.proofs.Common.{◌≡◌, subst, OnErr}
 use Rattle.group.specs.Groups.{GroupRecord, view}
 use Rattle.group.specs.Parts.{view as parts_view}
 use Rattle.group.specs.Model.Calls.{step}
@@ -15,5 +14,5 @@ returns g c =
     let after = parts_view c.tidy.new.self in
     record {
       step = subst (λ (h : GroupRecord). (c.tidy.result, after) ≡ step g.C.ClockRule.answer g.K.MarkKind.kind (view h) (tidy c.args.site c.args.partition)) c.self.view_is c.tidy.ensures.step;
-      keeps = subst (λ (h : GroupRecord). RefusalKeeps c.tidy.result (view h) after) c.self.view_is c.tidy.ensures.keeps;
+      keeps = subst (λ (h : GroupRecord). OnErr c.tidy.result (after ≡ view h)) c.self.view_is c.tidy.ensures.keeps;
     }

@@ -1,6 +1,5 @@
-use Rattle.std.proofs.Common.{◌≡◌, ℕ, Err, Result, sym, ap, ◌∙◌, subst, rules}
+use Rattle.std.proofs.Common.{◌≡◌, ℕ, Err, Result, sym, ap, ◌∙◌, subst, rules, OnErr}
 use Rattle.stamps.specs.declared.refusal.Refusal.{Refusal}
-use Rattle.stamps.specs.Refusals.{RefusalKeeps}
 use Rattle.servers.specs.Outboxes.{next_for}
 use Rattle.servers.specs.Servers.{ServerState, server_hand_over, server_take, view as server_view}
 use Rattle.group.specs.Parts.{call_server_at, server_at, view, with_server_at}
@@ -38,6 +37,6 @@ returns-in_err-take g c =
           ∙ deliver_not before mid c.args.from c.args.to c.args.partition from to why c.next_for.result entry c.in_ok-from.ensures.value
           (c.next_for.ensures ∙ ap (next_for (server_view c.server.result.now).waiting) (ap site c.to.view_is) ∙ ap (λ (s : ServerState). next_for s.waiting to.0) c.server.ensures) c.in-Some.is took;
       keeps =
-          subst (λ r. RefusalKeeps r before mid) (sym refused)
+          subst (λ r. OnErr r (mid ≡ before)) (sym refused)
           (refused_same before mid to.0 to.1 why (server_take (server_at before to) from.0 entry) took);
     }

@@ -1,6 +1,5 @@
-use Rattle.std.proofs.Common.{◌≡◌, ◌<◌, List, length, Ok, Err, Result, sym, ap, ◌∙◌, subst, arith, rules}
+use Rattle.std.proofs.Common.{◌≡◌, ◌<◌, List, length, Ok, Err, Result, sym, ap, ◌∙◌, subst, arith, rules, OnErr}
 use Rattle.stamps.specs.declared.refusal.Refusal.{Refusal}
-use Rattle.stamps.specs.Refusals.{RefusalKeeps}
 use Rattle.servers.specs.Servers.{server_put}
 use Rattle.servers.specs.declared.version.Version.{Version}
 use Rattle.group.specs.Model.Groups.{SessionState, partition_of}
@@ -36,7 +35,7 @@ returns-in_err-version g c =
       step =
           ap (λ r. (r, mid)) refused ∙ puts_not k before mid c.args.number c.args.key why x t wrote
           ∙ ap (λ s. put_value rule k before c.args.number c.args.key s (Ok value)) (c.session.view_is ∙ c.session_at-session.ensures.value);
-      keeps = subst (λ r. RefusalKeeps r before mid) (sym refused) (refused_same before mid x.site p why t wrote);
+      keeps = subst (λ r. OnErr r (mid ≡ before)) (sym refused) (refused_same before mid x.site p why t wrote);
     }
 
 pub returns : goal.returns
