@@ -35,9 +35,9 @@ impl From<&Version> for Shown {
 
     fn from(version: &Version) -> Shown {
         Shown {
-            value: version.value(),
+            value: version.value,
             stamp: version.stamp(),
-            source: version.source(),
+            source: version.source,
         }
     }
 }

@@ -7,9 +7,9 @@ use stamps::reading::Reading;
 use stamps::row::Row;
 use std::marker::{Model, PhantomData};
 
-/// A server: its clock, its marks, the versions that it holds and its outbox, under a clock rule and a kind of mark.
 // Marks are kept as their rows. The received row has the last stamp at the server's own site, at another site the stamp
 // of the latest entry taken from there, and the greatest stamp at a site that the layout lacks.
+/// A server: its clock, its marks, the versions that it holds and its outbox, under a clock rule and a kind of mark.
 #[derive(Drop)]
 pub struct Server<C: ClockRule, K: MarkKind> {
     reading: Reading,

@@ -9,37 +9,27 @@ use stamps::row::Row;
 use stamps::site::Site;
 use stamps::stamp::Stamp;
 
-/// A version: a value of a key with its stamp and its source, the site of the put.
-// The mark, kept as its row, stands for what the writer depended on.
+/// A version: a value of a key, as one put made it.
 #[derive(Clone, Copy, Debug, Default, PartialEq, Eq, Hash)]
 pub struct Version {
-    pub(crate) key: u16,
-    pub(crate) value: Value,
-    pub(crate) stamp: IssuedStamp,
-    pub(crate) source: Site,
-    pub(crate) mark: Row,
+    /// The key.
+    pub key: u16,
+    /// What it says of its key.
+    pub value: Value,
+    /// The stamp that its put was answered.
+    pub stamp: IssuedStamp,
+    /// The site of its put.
+    pub source: Site,
+    /// Its mark, as the row: what its writer depended on.
+    pub mark: Row,
 }
 
 impl Version {
-    /// What it says of its key.
-    pub fn value(&self) -> Value
-        ensures { result ≡ self.now.value }
-    {
-        self.value
-    }
-
-    /// The stamp that its put was answered.
+    /// The stamp that its put was answered, as any stamp.
     pub fn stamp(&self) -> Stamp
         ensures { result ≡ self.now.stamp }
     {
         self.stamp.into()
-    }
-
-    /// The site of its put.
-    pub fn source(&self) -> Site
-        ensures { result ≡ self.now.source }
-    {
-        self.source
     }
 
     // Whether this is the later of two versions of a key: by stamp, and at equal stamps by source.

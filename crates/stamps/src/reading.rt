@@ -5,8 +5,8 @@ ghost use Rattle.stamps.specs.Checks.{checked_reading};
 use crate::refusal::Refusal;
 use std::marker::Model;
 
-/// A time of 47 bits. The default is 0, which a clock shows before it was told a time.
 // No stamp of another range: a clock rule takes both, and they are not to be exchanged.
+/// A time of 47 bits. The default is 0, which a clock shows before it was told a time.
 #[derive(Clone, Copy, Debug, Default, PartialEq, Eq, PartialOrd, Ord, Hash)]
 pub struct Reading {
     time: u64,

@@ -213,7 +213,7 @@ fn at_equal_stamps_the_higher_source_is_later(rt: HostRuntime) -> Result<(), Fai
     };
     let version = &taker.versions()[index];
     assert_eq!(rt;
-        (version.value().amount(), version.source().number()),
+        (version.value.amount(), version.source.number()),
         (20, 1)
     );
     Ok(())
