@@ -1,5 +1,6 @@
 -- One server: its state as plain data, and its part of each call.
-use Rattle.std.specs.Prelude.{ℕ, Bool, if◌then◌else◌, List, [], ◌∷◌, ◌++◌, ℤ, pos, ◌-ℤ◌, Ok, Err, Option, Result, nat_lt}
+use Rattle.std.specs.Prelude.{ℕ, Bool, if◌then◌else◌, List, [], ◌∷◌, ◌++◌, ℤ, pos, ◌-ℤ◌, Ok, Err, Option, Result}
+use Rattle.std.specs.Prelude.{nat_lt}
 use Rattle.stamps.specs.declared.refusal.Refusal.{Refusal}
 use Rattle.stamps.specs.declared.refusal.Refusal.TheVariants.{NotInLayout, ReadingBehind, TableFull, OutboxFull}
 use Rattle.stamps.specs.Checks.{checked_reading}

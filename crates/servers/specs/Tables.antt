@@ -1,5 +1,6 @@
 -- Tables of versions: the latest that is shown, and tidying.
-use Rattle.std.specs.Prelude.{ℕ, ◌-◌, Bool, if◌then◌else◌, not, ◌&&◌, ◌||◌, List, [], ◌∷◌, length, Some, None, Option, ◌==◌, nat_le, filter, slice_get}
+use Rattle.std.specs.Prelude.{ℕ, ◌-◌, Bool, if◌then◌else◌, not, ◌&&◌, ◌||◌, List, [], ◌∷◌, length, Some, None, Option}
+use Rattle.std.specs.Prelude.{◌==◌, nat_le, filter, slice_get}
 use Rattle.std.specs.List.{list_any}
 use Rattle.stamps.specs.Rows.{PerSite, covers}
 use Rattle.stamps.specs.Kinds.{Kind}

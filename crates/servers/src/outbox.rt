@@ -28,7 +28,8 @@ pub(crate) struct Outbox {
 impl Outbox {
     ghost use Rattle.servers.specs.Laws.{StaysQueue};
     ghost use Rattle.servers.specs.Others.{is_other};
-    ghost use Rattle.servers.specs.Outboxes.{queues_of, empty_queues, is_outbox_full, issue_entry, next_for, take_entry};
+    ghost use Rattle.servers.specs.Outboxes.{queues_of, empty_queues, is_outbox_full, issue_entry, next_for};
+    ghost use Rattle.servers.specs.Outboxes.{take_entry};
 
     pub(crate) fn new(peers: Peers) -> Outbox
         ensures empty { queues_of result ≡ empty_queues }

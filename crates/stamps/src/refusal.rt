@@ -7,8 +7,8 @@ use thiserror::Error;
 /// One case for each reason of the whole store. Each has a number and a text for people.
 #[derive(Clone, Copy, Debug, PartialEq, Eq, Hash, Error)]
 pub enum Refusal {
-    /// A site or a partition is not in the layout, a site number is above 3, or an entry comes from its taker's own site
-    /// or from none of the layout.
+    /// A site or a partition is not in the layout, a site number is above 3, or an entry comes from its taker's own
+    /// site or from none of the layout.
     #[error("no such site or partition here, or an entry from a site to itself")]
     NotInLayout = 1,
     /// The session was not opened.

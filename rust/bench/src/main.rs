@@ -47,8 +47,8 @@ fn measure() -> Result<(), String> {
     let mut buffer = programs::buffer();
     buffer.fill(b'.');
     println!(
-        "Nanoseconds, the least of many rounds in which the programs take turns. All listings were compared first and are\n\
-         the same. The buffer is one for both; it is made and filled before the first run and never cleared.\n"
+        "Nanoseconds, the least of many rounds in which the programs take turns. All listings were compared first and\n\
+         are the same. The buffer is one for both; it is made and filled before the first run and never cleared.\n"
     );
     tables::calls(&cases::short(), &mut buffer)?;
     tables::commands(&cases::letters(), &mut buffer)?;

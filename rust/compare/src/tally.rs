@@ -6,8 +6,8 @@ const LETTERS: &[u8; 13] = b"LSTPGHDRUCQV?";
 const REFUSALS: usize = 16;
 
 /// The refusals that a script can meet. No script can meet these: 8, since the hybrid clock comes to its end only after
-/// 65,536 stamps of one time, for which a script is too short, and no script opens 2^32 - 1 snapshots; 11, since V closes
-/// what it has opened; and 16, which is about buffers.
+/// 65,536 stamps of one time, for which a script is too short, and no script opens 2^32 - 1 snapshots; 11, since V
+/// closes what it has opened; and 16, which is about buffers.
 const REACHABLE: [usize; 13] = [1, 2, 3, 4, 5, 6, 7, 9, 10, 12, 13, 14, 15];
 
 /// Whether a letter and what it was answered are what is counted.

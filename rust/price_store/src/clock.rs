@@ -110,8 +110,8 @@ impl Error for Refusal {}
 ///
 /// # Errors
 ///
-/// [`Refusal::Early`] if the reading has not passed `last` and `dependency`, [`Refusal::Unlawful`] if a number is out of
-/// range.
+/// [`Refusal::Early`] if the reading has not passed `last` and `dependency`, [`Refusal::Unlawful`] if a number is out
+/// of range.
 ///
 /// ```
 /// use price_store::{Refusal, Stamp, raw};

@@ -34,8 +34,8 @@ impl Error for ShortBuffer {}
 ///
 /// # Errors
 ///
-/// [`ShortBuffer`], with nothing changed, if the buffer has fewer than [`MAX_LINE`] bytes for each line that the listing
-/// has. It is not enough that the listing itself would fit.
+/// [`ShortBuffer`], with nothing changed, if the buffer has fewer than [`MAX_LINE`] bytes for each line that the
+/// listing has. It is not enough that the listing itself would fit.
 ///
 /// ```
 /// use price_store::{MAX_LINE, ShortBuffer, listing};

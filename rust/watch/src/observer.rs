@@ -410,8 +410,8 @@ impl Observer {
         }
     }
 
-    /// For each put in a session's past, a get of its key would show that put or a later version. The latest such put of
-    /// each key stands for the others.
+    /// For each put in a session's past, a get of its key would show that put or a later version. The latest such put
+    /// of each key stands for the others.
     fn check_causes(&mut self) -> Result<(), Broken> {
         for session in 0..self.sessions.len() {
             for index in 0..self.keys.len() {

@@ -40,8 +40,8 @@ IsInRange (Percent percent) = percent.hundredths ≤ 10000
 IsInRange (Basis Part) = Unit {0}
 IsInRange (Basis Sheet) = Unit {0}
 
--- Of a key nothing is asked here: its 16 bits are its type's in the code, and a call may be made with any. The range of a
--- percentage is its type's too.
+-- Of a key nothing is asked here: its 16 bits are its type's in the code, and a call may be made with any. The range of
+-- a percentage is its type's too.
 pub record IsVersionBounded (k : Kind) (sites : ℕ) (v : Version) : Type 0 where
   pub value : IsInRange v.value
   pub stamp : v.stamp < 2 ^ 63

@@ -29,8 +29,8 @@ impl<C: ClockRule, K: MarkKind> GroupParts<C, K> {
         let fourth = first.at(site_of(3));
         GroupParts {
             layout,
-            // Written out: a function of the index would have to be told which indices there are. In the places of a site
-            // that the layout lacks stand servers of the first site, which are never used.
+            // Written out: a function of the index would have to be told which indices there are. In the places of a
+            // site that the layout lacks stand servers of the first site, which are never used.
             servers: [
                 Server::new(first),
                 Server::new(first),

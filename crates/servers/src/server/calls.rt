@@ -4,7 +4,8 @@ ghost use Rattle.servers.specs.Laws.{IsAbove};
 ghost use Rattle.servers.specs.Others.{is_other};
 ghost use Rattle.servers.specs.Outboxes.{next_for};
 ghost use Rattle.servers.specs.Versions.{stamp_answered};
-ghost use Rattle.servers.specs.Servers.{view, last_of, server_tell, server_heartbeat, server_put, server_hand_over, server_take, server_take_other, lead_of};
+ghost use Rattle.servers.specs.Servers.{view, last_of, server_tell, server_heartbeat, server_put, server_hand_over};
+ghost use Rattle.servers.specs.Servers.{server_take, server_take_other, lead_of};
 
 use super::Server;
 use crate::entry::Entry;

@@ -26,8 +26,8 @@ impl<C: ClockRule, K: MarkKind> Server<C, K> {
         self.table.versions()
     }
 
-    /// Where among the versions held the latest one of a key stands that is local or that the stable mark covers. Were it
-    /// held twice, which no group does, either place may be answered.
+    /// Where among the versions held the latest one of a key stands that is local or that the stable mark covers. Were
+    /// it held twice, which happens in no group, either place may be answered.
     pub fn latest_visible(&self, key: u16) -> Option<usize>
         ensures value { version_at (view self.now).held result ≡ latest_visible K.MarkKind.kind (view self.now) key }
         ensures within { IfSome result (λ index. index < length (view self.now).held) }
@@ -41,8 +41,8 @@ impl<C: ClockRule, K: MarkKind> Server<C, K> {
         self.table.latest(key, &test)
     }
 
-    /// Where among the versions held the latest one of a key stands that a cut covers. Were it held twice, which no group
-    /// does, either place may be answered.
+    /// Where among the versions held the latest one of a key stands that a cut covers. Were it held twice, which
+    /// happens in no group, either place may be answered.
     pub fn latest_covered(&self, key: u16, cut: K::Mark) -> Option<usize>
         ensures value { version_at (view self.now).held result
             ≡ latest_covered K.MarkKind.kind (view self.now) key (K.MarkKind.meaning cut) }
