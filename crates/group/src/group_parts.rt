@@ -20,11 +20,12 @@ pub(crate) const MOST_SESSIONS: usize = 8;
 // One array, as a call of an element of an array of arrays gets no proof where the element has ghost fields.
 #[derive(Drop)]
 pub(crate) struct GroupParts<C: ClockRule, K: MarkKind> {
-    layout: Layout,
+    // In this order a new group is copied once: what stands by the servers, padding too, is copied with them.
     servers: [Server<C, K>; 16],
+    next_serial: u32,
+    layout: Layout,
     sessions: ArrayVec<Session, MOST_SESSIONS>,
     seats: Seats,
-    next_serial: u32,
     ghost inside: { HasSitesBelow layout.sites sessions.items },
     ghost opened: { HasSessionsOf (length sessions.items) seats.places },
 }

@@ -17,9 +17,9 @@ pub const MOST_ENTRIES: usize = 16;
 // an entry that all of them have taken is gone.
 #[derive(Drop)]
 pub(crate) struct Outbox {
-    peers: Peers,
     entries: ArrayVec<Entry, MOST_ENTRIES>,
     left: Counts,
+    peers: Peers,
     ghost layout: { IsInLayout peers.own peers.sites },
     ghost others: { IsOthersOnly peers.own peers.sites left },
     ghost needed: { greatest left ≡ length entries.items },
@@ -37,9 +37,9 @@ impl Outbox {
         ensures peers { result.peers ≡ peers }
     {
         Outbox {
-            peers,
             entries: ArrayVec::new(),
             left: Counts::zero(),
+            peers,
         }
     }
 

@@ -28,7 +28,6 @@ impl<C: ClockRule, K: MarkKind> GroupParts<C, K> {
         let third = first.at(site_of(2));
         let fourth = first.at(site_of(3));
         GroupParts {
-            layout,
             // Written out: a function of the index would have to be told which indices there are. In the places of a
             // site that the layout lacks stand servers of the first site, which are never used.
             servers: [
@@ -49,9 +48,10 @@ impl<C: ClockRule, K: MarkKind> GroupParts<C, K> {
                 Server::new(fourth),
                 Server::new(fourth),
             ],
+            next_serial: 0,
+            layout,
             sessions: ArrayVec::new(),
             seats: Seats::new(),
-            next_serial: 0,
         }
     }
 }
