@@ -1,5 +1,6 @@
 -- The promises, for every store and every run of it.
-use Rattle.std.specs.Prelude.{◌≡◌, ℕ, ◌<◌, Bool, true, ◌⊎◌, List, [], ◌∷◌, Contains, Some, None, Ok, Option, Result, ◌≢◌}
+use Rattle.std.specs.Prelude.{◌≡◌, ℕ, ◌<◌, Bool, true, ◌⊎◌, ◌≢◌}
+use Rattle.std.specs.Prelude.{List, [], ◌∷◌, Contains, Some, None, Ok, Option, Result}
 use Rattle.stamps.specs.declared.refusal.Refusal.{Refusal}
 use Rattle.servers.specs.Laws.{IsLatest}
 use Rattle.servers.specs.Values.{value_from}
