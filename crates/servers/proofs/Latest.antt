@@ -5,7 +5,8 @@ use Rattle.std.proofs.lemmas.Bool.Decides.{nat_tests}
 use Rattle.servers.specs.Versions.{is_later}
 use Rattle.servers.specs.declared.version.Version.{Version}
 use Rattle.servers.specs.Tables.{better_of, latest, latest_from}
-use Rattle.servers.specs.Laws.{IsAsLateVersion, IsIn, IsLatest, IsLaterVersion, Passes}
+use Rattle.servers.specs.Laws.{IsAsLateVersion, IsLatest, IsLaterVersion, Passes}
+use Rattle.servers.proofs.Elements.{InList, contained, in_list}
 
 pub later_gives : (v w : Version) → is_later v w ≡ true → IsLaterVersion v w
 later_gives v w e = (grind (arith, nat_tests), λ s. grind (arith, nat_tests))
@@ -38,10 +39,10 @@ not_both v w p q =
 module _ (test : Version → Bool) (key : ℕ) where
   -- what the search gives of what was found before and a list
   abbrev Outcome : Option Version → List Version → Option Version → Type 0
-  Outcome found vs None = (found ≡ None) × ((v : Version) → IsIn v vs → Passes test key v → ⊥)
+  Outcome found vs None = (found ≡ None) × ((v : Version) → InList v vs → Passes test key v → ⊥)
   Outcome found vs (Some b) =
-      ((found ≡ Some b) ⊎ (IsIn b vs × Passes test key b))
-      × ((v : Version) → IsIn v vs → Passes test key v → IsAsLateVersion b v)
+      ((found ≡ Some b) ⊎ (InList b vs × Passes test key b))
+      × ((v : Version) → InList v vs → Passes test key v → IsAsLateVersion b v)
       × ((a : Version) → found ≡ Some a → IsAsLateVersion b a)
 
   -- v does not take the place of what was found
@@ -104,8 +105,8 @@ module _ (test : Version → Bool) (key : ℕ) where
   outcome found (v ∷ vs) = better_outcome found v vs (latest_from test key (better_of test key found v) vs) (outcome (better_of test key found v) vs)
 
   settled : (vs : List Version) (r : Option Version) → Outcome None vs r → IsLatest test key vs r
-  settled vs None o = o.1
-  settled vs (Some b) o = ⊎_elim (λ e. let z : ◌≡◌ {A = ℕ} 0 1 = cc in absurd (omega arith)) (λ h. (h.0, h.1, o.1)) o.0
+  settled vs None o = λ v c. o.1 v (in_list vs v c)
+  settled vs (Some b) o = ⊎_elim (λ e. let z : ◌≡◌ {A = ℕ} 0 1 = cc in absurd (omega arith)) (λ h. (contained vs b h.0, h.1, λ v c. o.1 v (in_list vs v c))) o.0
 
   pub latest_law : (vs : List Version) → IsLatest test key vs (latest test key vs)
   latest_law vs = settled vs (latest test key vs) (outcome None vs)

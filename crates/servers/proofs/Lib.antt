@@ -1,4 +1,5 @@
 pub mod CheckedPercents
+pub mod Elements
 pub mod Latest
 pub mod Queues
 pub mod Rising

@@ -9,7 +9,7 @@ use Rattle.stamps.specs.Stamps.{top_stamp}
 use Rattle.stamps.specs.Kinds.{Kind}
 use Rattle.servers.specs.declared.entry.Entry.{Entry}
 use Rattle.servers.specs.declared.entry.Entry.TheVariants.{Heartbeat, Update}
-use Rattle.servers.specs.Laws.{ServerCall, IsIn, HasStampMarks, ServerRun, IsRising, StampsRise, beat, run_after, hand_over, server_run, newest, put, raise, report, run_with_stamp, take_from, tell, tidy, run_without_stamp}
+use Rattle.servers.specs.Laws.{ServerCall, HasStampMarks, ServerRun, IsRising, StampsRise, beat, run_after, hand_over, server_run, newest, put, raise, report, run_with_stamp, take_from, tell, tidy, run_without_stamp}
 use Rattle.servers.specs.Others.{is_other}
 use Rattle.servers.specs.Outboxes.{is_outbox_full}
 use Rattle.servers.specs.Servers.{ServerState, server_heartbeat_with, first_entry, first_received, server_keep, last_of, server_put_with, server_receive, server_take_other, server_tell_checked}
@@ -17,6 +17,7 @@ use Rattle.servers.specs.Tables.{is_table_full}
 use Rattle.servers.specs.declared.value.Value.{Value}
 use Rattle.servers.specs.declared.version.Version.{Version}
 use Rattle.servers.specs.Versions.{stamp_answered}
+use Rattle.servers.proofs.Elements.{InList, contained}
 use Rattle.servers.proofs.RowEntries.{at_other, at_same, by_site}
 
 -- what all calls keep, of a server of a site
@@ -129,11 +130,11 @@ module _ (rule : Rule) (lawful : IsLawfulRule rule) (k : Kind) (site : ℕ) (few
       first : (i : ℕ) → i < 4 → i < sites → first_entry sites i ≡ 0
       first i _ lt = cond-true (ltb i sites) 0 top_stamp (lt-ltb i sites lt)
 
-  run_sound : (sites : ℕ) → site < sites → (calls : List ServerCall) → ((c : ServerCall) → IsIn c calls → HasStampMarks c) → Sound site (server_run rule k site sites calls)
+  run_sound : (sites : ℕ) → site < sites → (calls : List ServerCall) → ((c : ServerCall) → InList c calls → HasStampMarks c) → Sound site (server_run rule k site sites calls)
   run_sound sites within [] ok = record { here = refl; reading = omega arith; rise = tt; last = first_none sites within }
   run_sound sites within (c ∷ cs) ok = call_sound (server_run rule k site sites cs) c (ok c (inl refl)) (run_sound sites within cs (λ d i. ok d (inr i)))
 
   pub rising_law : (sites : ℕ) → site < sites → StampsRise rule k site sites
   rising_law sites within calls ok =
-      let h = run_sound sites within calls ok in
+      let h = run_sound sites within calls (λ c i. ok c (contained calls c i)) in
       (h.rise, ap (at (server_run rule k site sites calls).server.marks.received) h.here ∙ h.last)

@@ -1,5 +1,6 @@
 -- Laws of one server, in the words of the subject.
-use Rattle.std.specs.Prelude.{◌≡◌, ℕ, ◌+◌, ◌^◌, ◌<◌, ◌≤◌, Bool, true, false, if◌then◌else◌, ◌⊎◌, List, [], ◌∷◌, ◌++◌, length, Some, None, Ok, Err, Option, Result, ◌==◌}
+use Rattle.std.specs.Prelude.{◌≡◌, ℕ, ◌+◌, ◌^◌, ◌<◌, ◌≤◌, Bool, true, false, if◌then◌else◌, ◌⊎◌}
+use Rattle.std.specs.Prelude.{List, [], ◌∷◌, ◌++◌, length, Contains, Some, None, Ok, Err, Option, Result, ◌==◌}
 use Rattle.std.specs.Option.{option_to_list}
 use Rattle.stamps.specs.declared.refusal.Refusal.{Refusal}
 use Rattle.stamps.specs.Kinds.{Kind}
@@ -7,17 +8,13 @@ use Rattle.stamps.specs.Rows.{PerSite, HasStamps}
 use Rattle.servers.specs.declared.entry.Entry.{Entry}
 use Rattle.servers.specs.Others.{is_other}
 use Rattle.servers.specs.Outboxes.{Queues, first, issue_entry, empty_queues, is_outbox_full, take_entry}
-use Rattle.servers.specs.Servers.{ServerState, server_heartbeat, new_server, server_hand_over, last_of, server_put, server_raise, server_report, server_take, server_tidy, server_tell}
+use Rattle.servers.specs.Servers.{ServerState, server_heartbeat, new_server, server_hand_over, last_of, server_put}
+use Rattle.servers.specs.Servers.{server_raise, server_report, server_take, server_tidy, server_tell}
 use Rattle.stamps.specs.Clocks.{Rule}
 use Rattle.servers.specs.Tables.{is_covered}
 use Rattle.servers.specs.Versions.{stamp_answered}
 use Rattle.servers.specs.declared.value.Value.{Value}
 use Rattle.servers.specs.declared.version.Version.{Version}
-
--- x stands in a list
-abbrev pub IsIn : {A : Type 0} → A → List A → Type 0
-IsIn x [] = ⊥
-IsIn x (y ∷ ys) = (x ≡ y) ⊎ IsIn x ys
 
 -- v is at least as late as w: w is not later
 abbrev pub IsAsLateVersion : Version → Version → Type 0
@@ -34,21 +31,21 @@ Passes test key v = (v.key ≡ key) × (test v ≡ true)
 -- The latest under a test is held and passes, and nothing held that passes is later; there is none exactly when nothing
 -- held passes.
 abbrev pub IsLatest : (Version → Bool) → ℕ → List Version → Option Version → Type 0
-IsLatest test key vs None = (v : Version) → IsIn v vs → Passes test key v → ⊥
+IsLatest test key vs None = (v : Version) → Contains vs v → Passes test key v → ⊥
 IsLatest test key vs (Some b) =
-    IsIn b vs × Passes test key b × ((v : Version) → IsIn v vs → Passes test key v → IsAsLateVersion b v)
+    Contains vs b × Passes test key b × ((v : Version) → Contains vs v → Passes test key v → IsAsLateVersion b v)
 
 -- Tidying under a safe mark.
 pub record IsTidied (k : Kind) (safe : PerSite) (before after : List Version) (count : ℕ) : Type 0 where
   -- nothing comes in
-  pub held : (v : Version) → IsIn v after → IsIn v before
+  pub held : (v : Version) → Contains after v → Contains before v
   -- what is older than a version of its key that the safe mark covers is dropped
-  pub gone : (v w : Version) → IsIn w before → w.key ≡ v.key → is_covered k safe w ≡ true → IsLaterVersion w v
-      → IsIn v after → ⊥
+  pub gone : (v w : Version) → Contains before w → w.key ≡ v.key → is_covered k safe w ≡ true → IsLaterVersion w v
+      → Contains after v → ⊥
   -- what is dropped is older than such a version that stays; so the latest of these stays, and all that is not older
-  pub drops : (v : Version) → IsIn v before
-      → IsIn v after
-      ⊎ ((w : Version) × IsIn w after × (w.key ≡ v.key) × (is_covered k safe w ≡ true) × IsLaterVersion w v)
+  pub drops : (v : Version) → Contains before v
+      → Contains after v
+      ⊎ ((w : Version) × Contains after w × (w.key ≡ v.key) × (is_covered k safe w ≡ true) × IsLaterVersion w v)
   pub counts : length after + count ≡ length before
 
 -- A stamp that a server answers is above its last one.
@@ -162,6 +159,6 @@ IsRising (s ∷ ss) = (newest ss < s) × (s < 2 ^ 63) × IsRising ss
 -- After any calls, the stamps that a server of the layout has made rise, and the newest of them is its last stamp.
 abbrev pub StampsRise : Rule → Kind → ℕ → ℕ → Type 0
 StampsRise rule k site sites =
-    (calls : List ServerCall) → ((c : ServerCall) → IsIn c calls → HasStampMarks c)
+    (calls : List ServerCall) → ((c : ServerCall) → Contains calls c → HasStampMarks c)
     → let run = server_run rule k site sites calls in
     IsRising run.made × (last_of run.server ≡ newest run.made)

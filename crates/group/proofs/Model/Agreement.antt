@@ -1,10 +1,11 @@
 -- With every outbox empty, all sites hold the same latest version of each key.
-use Rattle.std.proofs.Common.{◌≡◌, ℕ, ◌<◌, Some, None, Option, sym, refl, ap, ◌∙◌, subst, ⊎_elim}
+use Rattle.std.proofs.Common.{◌≡◌, ℕ, ◌<◌, Contains, Some, None, Option, sym, refl, ap, ◌∙◌, subst, ⊎_elim}
 use Rattle.std.proofs.lemmas.Bool.{cases_eq}
 use Rattle.stamps.specs.Kinds.{Kind}
 use Rattle.servers.specs.declared.entry.Entry.TheVariants.{Update}
-use Rattle.servers.specs.Laws.{IsIn, IsLatest}
+use Rattle.servers.specs.Laws.{IsLatest}
 use Rattle.servers.specs.declared.version.Version.{Version}
+use Rattle.servers.proofs.Elements.{InList}
 use Rattle.group.specs.Model.Events.{IsAsLate, History}
 use Rattle.group.specs.Model.Groups.{GroupState}
 use Rattle.group.specs.Model.GroupStore.{HasEmptyOutboxes, versions_at}
@@ -21,17 +22,17 @@ module _ {k : Kind} {sites : ℕ} {h : History} {g : GroupState} {G : Ghost} (v 
   L = shape g v.frame.layout.few_sites v.frame.layout.some_partitions
 
   -- every site has every version
-  had : (w : Version) (s : ℕ) → s < g.sites → IsIn w G.log → Had L (λ a b. (g.server a b).marks.received) s w
+  had : (w : Version) (s : ℕ) → s < g.sites → InList w G.log → Had L (λ a b. (g.server a b).marks.received) s w
   had w s l i = ⊎_elim
       (λ e. subst (λ (z : ℕ). Had L (λ a b. (g.server a b).marks.received) z w) (sym e) (v.core.logs.stamped w i))
       (λ ne. ⊎_elim (λ r. r)
-      (λ p. absurd (subst (IsIn (Update w)) (quiet w.source s (part L w.key) (v.core.logs.source w i) l (part_small L w.key)) p))
+      (λ p. absurd (subst (InList (Update w)) (quiet w.source s (part L w.key) (v.core.logs.source w i) l (part_small L w.key)) p))
       (v.core.queues.reach w s i l ne))
       (cases_eq s w.source)
 
   -- whatever one site holds, another holds too, or a later version of that key
-  other : (w : Version) (s t key : ℕ) → t < g.sites → IsIn w (versions_at g s) → w.key ≡ key →
-      IsIn w G.log × ((u : Version) × IsIn u (versions_at g t) × (u.key ≡ key) × IsAsLate (name_of u) (name_of w))
+  other : (w : Version) (s t key : ℕ) → t < g.sites → Contains (versions_at g s) w → w.key ≡ key →
+      InList w G.log × ((u : Version) × Contains (versions_at g t) u × (u.key ≡ key) × IsAsLate (name_of u) (name_of w))
   other w s t key l i e =
       let r = held_from g s w i in
       let o = v.core.holds.had w s r.0 r.2 in

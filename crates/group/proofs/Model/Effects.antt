@@ -3,9 +3,9 @@ use Rattle.std.proofs.Common.{◌≡◌, ℕ, ◌<◌, ◌⊎◌, List, Option, 
 use Rattle.stamps.specs.Rows.{PerSite, HasStamps, Covers}
 use Rattle.stamps.specs.Kinds.{Kind, IsMark}
 use Rattle.servers.specs.declared.entry.Entry.{Entry}
-use Rattle.servers.specs.Laws.{IsIn}
 use Rattle.servers.specs.Versions.{full_mark}
 use Rattle.servers.specs.declared.version.Version.{Version}
+use Rattle.servers.proofs.Elements.{InList}
 use Rattle.group.specs.Model.Events.{Put, IsLater}
 use Rattle.group.specs.Model.Groups.{SessionState, SeatState}
 use Rattle.group.specs.Model.Pasts.{Pasts}
@@ -55,7 +55,7 @@ Grown opened old new =
     (i : ℕ) → i < opened → ((new i).site ≡ (old i).site) × Covers (new i).depends (old i).depends × Covers (new i).knows (old i).knows
 
 abbrev pub Sub : List Version → List Version → Type 0
-Sub a b = (v : Version) → IsIn v a → IsIn v b
+Sub a b = (v : Version) → InList v a → InList v b
 
 pub part_small : (L : Shape) (key : ℕ) → part L key < L.parts
 part_small L key = mod-lt key L.parts_some

@@ -2,10 +2,10 @@
 use Rattle.std.proofs.Common.{◌≡◌, ℕ, ◌^◌, ◌<◌, ◌≤◌, ◌∷◌, length, Some, None, Option, sym, refl, ◌∙◌, subst, ⊎_elim, le_trans, le_refl, arith}
 use Rattle.stamps.specs.Rows.{PerSite}
 use Rattle.stamps.specs.Kinds.{Kind}
-use Rattle.servers.specs.Laws.{IsIn}
 use Rattle.servers.specs.Servers.{ServerState}
 use Rattle.servers.specs.declared.value.Value.{Value}
 use Rattle.servers.specs.declared.version.Version.{Version}
+use Rattle.servers.proofs.Elements.{InList}
 use Rattle.group.specs.Model.Calls.{shown_of}
 use Rattle.group.specs.Model.Events.{Put, Shown, Ticket, Told, read_by, nothing, History}
 use Rattle.group.specs.Model.Groups.{GroupState, SeatState, session_at, seat_at}
@@ -54,10 +54,10 @@ pub record Inv (k : Kind) (sites : ℕ) (h : History) (g : GroupState) (G : Ghos
   pub layout : g.sites ≡ sites
   pub core : Core k (shape g frame.layout.few_sites frame.layout.some_partitions) (HasInPast h) (tables k g) G
   pub hist : HistInv h g
-  pub reads : (t : Ticket) (key : ℕ) (o : Option Shown) → IsIn (read_by t key o) h → ReadRight k G g.next_serial t key o
+  pub reads : (t : Ticket) (key : ℕ) (o : Option Shown) → InList (read_by t key o) h → ReadRight k G g.next_serial t key o
   -- the log is what was put
-  pub written : (v : Version) → IsIn v G.log → WasPut h (name_of v) v.value
-  pub logged : (p : Put) (x : Value) → WasPut h p x → (v : Version) × IsIn v G.log × (name_of v ≡ p)
+  pub written : (v : Version) → InList v G.log → WasPut h (name_of v) v.value
+  pub logged : (p : Put) (x : Value) → WasPut h p x → (v : Version) × InList v G.log × (name_of v ≡ p)
 
 -- What the proof remembers has only grown, and no snapshot's answers have changed.
 pub record Grows (k : Kind) (next next' : ℕ) (G G' : Ghost) : Type 0 where

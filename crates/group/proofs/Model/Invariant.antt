@@ -6,9 +6,9 @@ use Rattle.stamps.specs.Kinds.{Kind, IsMark}
 use Rattle.servers.specs.Entries.{entry_stamp}
 use Rattle.servers.specs.declared.entry.Entry.{Entry}
 use Rattle.servers.specs.declared.entry.Entry.TheVariants.{Update}
-use Rattle.servers.specs.Laws.{IsIn}
 use Rattle.servers.specs.Versions.{full_mark}
 use Rattle.servers.specs.declared.version.Version.{Version}
+use Rattle.servers.proofs.Elements.{InList}
 use Rattle.group.specs.Model.Calls.{safe_mark}
 use Rattle.group.specs.Model.Events.{Put, IsLater}
 use Rattle.group.specs.Model.Groups.{GroupState, SessionState, SeatState, session_at, seat_at}
@@ -82,31 +82,31 @@ Below L received s m = (n : ℕ) → n < L.parts → Covers (received s n) m
 
 -- The log: every version ever put.
 pub record LogInv (k : Kind) (L : Shape) (received : ℕ → ℕ → PerSite) (log : List Version) : Type 0 where
-  pub source : (v : Version) → IsIn v log → v.source < L.sites
-  pub stamped : (v : Version) → IsIn v log → v.stamp ≤ last received v.source (part L v.key)
-  pub small : (v : Version) → IsIn v log → v.stamp < 2 ^ 63
-  pub marked : (v : Version) → IsIn v log → IsMark k v.mark
-  pub above : (v : Version) → IsIn v log → greatest v.mark < v.stamp
-  pub unique : (v w : Version) → IsIn v log → IsIn w log → name_of v ≡ name_of w → v ≡ w
+  pub source : (v : Version) → InList v log → v.source < L.sites
+  pub stamped : (v : Version) → InList v log → v.stamp ≤ last received v.source (part L v.key)
+  pub small : (v : Version) → InList v log → v.stamp < 2 ^ 63
+  pub marked : (v : Version) → InList v log → IsMark k v.mark
+  pub above : (v : Version) → InList v log → greatest v.mark < v.stamp
+  pub unique : (v w : Version) → InList v log → InList w log → name_of v ≡ name_of w → v ≡ w
 
 -- What is under way: it comes in rising stamps, and a version of the log has arrived at a site or is under way to it.
 pub record QueueInv (L : Shape) (received : ℕ → ℕ → PerSite) (waits : ℕ → ℕ → ℕ → List Entry) (log : List Version) : Type 0 where
   pub chain : (j s n : ℕ) → j < L.sites → s < L.sites → (s ≡ j → ⊥) → Chain (at (received s n) j) (waits j n s) (last received j n)
-  pub pending : (v : Version) (j s n : ℕ) → j < L.sites → s < L.sites → (s ≡ j → ⊥) → IsIn (Update v) (waits j n s) → IsIn v log × (v.source ≡ j) × (part L v.key ≡ n)
-  pub reach : (v : Version) (s : ℕ) → IsIn v log → s < L.sites → (s ≡ v.source → ⊥) →
-      Had L received s v ⊎ IsIn (Update v) (waits v.source (part L v.key) s)
+  pub pending : (v : Version) (j s n : ℕ) → j < L.sites → s < L.sites → (s ≡ j → ⊥) → InList (Update v) (waits j n s) → InList v log × (v.source ≡ j) × (part L v.key ≡ n)
+  pub reach : (v : Version) (s : ℕ) → InList v log → s < L.sites → (s ≡ v.source → ⊥) →
+      Had L received s v ⊎ InList (Update v) (waits v.source (part L v.key) s)
 
 -- A version is held, or a later one of its key that the safe mark covers stands in for it.
 pub record StandsIn (k : Kind) (vs : List Version) (safe : PerSite) (v : Version) : Type 0 where
   pub other : Version
-  pub there : IsIn other vs
+  pub there : InList other vs
   pub same_key : other.key ≡ v.key
   pub how : (other ≡ v) ⊎ (IsLater (name_of other) (name_of v) × Covers safe (full_mark k other))
 
 -- What is held was had, and what was had is held or stood in for.
 pub record HeldInv (k : Kind) (L : Shape) (received : ℕ → ℕ → PerSite) (held : ℕ → ℕ → List Version) (safe : ℕ → PerSite) (log : List Version) : Type 0 where
-  pub had : (v : Version) (s n : ℕ) → IsIn v (held s n) → IsIn v log × (part L v.key ≡ n) × Had L received s v
-  pub kept : (v : Version) (s : ℕ) → s < L.sites → IsIn v log → Had L received s v → StandsIn k (held s (part L v.key)) (safe s) v
+  pub had : (v : Version) (s n : ℕ) → InList v (held s n) → InList v log × (part L v.key ≡ n) × Had L received s v
+  pub kept : (v : Version) (s : ℕ) → s < L.sites → InList v log → Had L received s v → StandsIn k (held s (part L v.key)) (safe s) v
 
 -- The marks of the servers: marks of the kind, and below what was received.
 pub record ServerMarks (k : Kind) (L : Shape) (received reported stable : ℕ → ℕ → PerSite) : Type 0 where
@@ -140,7 +140,7 @@ pub record CutInv (k : Kind) (L : Shape) (received : ℕ → ℕ → PerSite) (n
 -- Put p was made; `mark` covers its full mark; site s had it, and it is its own or `clear` covers its full mark.
 pub record Reached (k : Kind) (L : Shape) (received : ℕ → ℕ → PerSite) (log : List Version) (s : ℕ) (mark clear : PerSite) (p : Put) : Type 0 where
   pub version : Version
-  pub logged : IsIn version log
+  pub logged : InList version log
   pub named : name_of version ≡ p
   pub covered : Covers mark (full_mark k version)
   pub here : Had L received s version
@@ -149,7 +149,7 @@ pub record Reached (k : Kind) (L : Shape) (received : ℕ → ℕ → PerSite) (
 -- Put p stands in the past of put u.
 pub record Before (k : Kind) (L : Shape) (received stable : ℕ → ℕ → PerSite) (log : List Version) (u p : Put) : Type 0 where
   pub writer : Version
-  pub logged : IsIn writer log
+  pub logged : InList writer log
   pub named : name_of writer ≡ u
   pub reached : Reached k L received log writer.source writer.mark (stable writer.source (part L writer.key)) p
 

@@ -5,10 +5,10 @@ use Rattle.stamps.specs.Rows.{PerSite, at, with_entry}
 use Rattle.servers.specs.Entries.{entry_stamp}
 use Rattle.servers.specs.declared.entry.Entry.{Entry}
 use Rattle.servers.specs.declared.entry.Entry.TheVariants.{Update}
-use Rattle.servers.specs.Laws.{IsIn}
 use Rattle.servers.specs.Others.{is_other}
 use Rattle.servers.specs.Outboxes.{issue_entry}
 use Rattle.servers.specs.declared.version.Version.{Version}
+use Rattle.servers.proofs.Elements.{InList}
 use Rattle.group.proofs.Model.Rows.{at_entry_same, at_entry_other, entry_rises}
 use Rattle.group.proofs.Model.Lists.{in_left, in_end, in_push, set2, set2_cases}
 use Rattle.group.proofs.Model.Invariant.{Shape, part, last, Chain, Had, QueueInv}
@@ -24,12 +24,12 @@ pub chain_le : (low high : ℕ) (xs : List Entry) → Chain low xs high → low 
 chain_le low high [] c = rw c (le_refl high)
 chain_le low high (x ∷ xs) c = let l = chain_le (entry_stamp x) high xs c.1 in omega (arith, c.0)
 
-pub chain_below : (low high : ℕ) (xs : List Entry) (e : Entry) → Chain low xs high → IsIn e xs → entry_stamp e ≤ high
+pub chain_below : (low high : ℕ) (xs : List Entry) (e : Entry) → Chain low xs high → InList e xs → entry_stamp e ≤ high
 chain_below low high [] e c h = absurd h
 chain_below low high (x ∷ xs) e c (inl same) = rw same (chain_le (entry_stamp x) high xs c.1)
 chain_below low high (x ∷ xs) e c (inr h) = chain_below (entry_stamp x) high xs e c.1 h
 
-pub chain_above : (low high : ℕ) (xs : List Entry) (e : Entry) → Chain low xs high → IsIn e xs → low < entry_stamp e
+pub chain_above : (low high : ℕ) (xs : List Entry) (e : Entry) → Chain low xs high → InList e xs → low < entry_stamp e
 chain_above low high [] e c h = absurd h
 chain_above low high (x ∷ xs) e c (inl same) = rw same c.0
 chain_above low high (x ∷ xs) e c (inr h) = let l = chain_above (entry_stamp x) high xs e c.1 h in omega (arith, c.0)
@@ -114,8 +114,8 @@ module _ (L : Shape) (received : ℕ → ℕ → PerSite) (waits : ℕ → ℕ �
       omega (arith, received_le q s' n s l in_s))
 
   pub queues_issue : (log' : List Version) → Sub log log' →
-      ((v : Version) → e ≡ Update v → IsIn v log' × (v.source ≡ s) × (part L v.key ≡ n)) →
-      ((v : Version) → IsIn v log' → IsIn v log ⊎ ((e ≡ Update v) × (v.source ≡ s) × (part L v.key ≡ n))) →
+      ((v : Version) → e ≡ Update v → InList v log' × (v.source ≡ s) × (part L v.key ≡ n)) →
+      ((v : Version) → InList v log' → InList v log ⊎ ((e ≡ Update v) × (v.source ≡ s) × (part L v.key ≡ n))) →
       QueueInv L (receiving received s n s (entry_stamp e)) (sending L.sites waits s n e) log'
   queues_issue log' sub fresh cover = record { chain = chain'; pending = pending'; reach = λ v s' i l ne. reach' v s' l ne (cover v i) }
     where
@@ -134,21 +134,21 @@ module _ (L : Shape) (received : ℕ → ℕ → PerSite) (waits : ℕ → ℕ �
           (λ a b _. absurd (other a b))
           (λ _. q.chain j s' n' lj ls ne)))
 
-      pending' : (v : Version) (j s' n' : ℕ) → j < L.sites → s' < L.sites → (s' ≡ j → ⊥) → IsIn (Update v) (sending L.sites waits s n e j n' s') → IsIn v log' × (v.source ≡ j) × (part L v.key ≡ n')
-      pending' v j s' n' lj ls ne = sending_cases L.sites waits s n e j n' s' ls ne (λ x. IsIn (Update v) x → IsIn v log' × (v.source ≡ j) × (part L v.key ≡ n'))
+      pending' : (v : Version) (j s' n' : ℕ) → j < L.sites → s' < L.sites → (s' ≡ j → ⊥) → InList (Update v) (sending L.sites waits s n e j n' s') → InList v log' × (v.source ≡ j) × (part L v.key ≡ n')
+      pending' v j s' n' lj ls ne = sending_cases L.sites waits s n e j n' s' ls ne (λ x. InList (Update v) x → InList v log' × (v.source ≡ j) × (part L v.key ≡ n'))
           (λ a b i. ⊎_elim old (λ same. let f = fresh v (sym same) in (f.0, f.1 ∙ sym a, f.2 ∙ sym b)) (in_push (Update v) (waits j n' s') e i))
           (λ _ i. old i)
         where
-          old : IsIn (Update v) (waits j n' s') → IsIn v log' × (v.source ≡ j) × (part L v.key ≡ n')
+          old : InList (Update v) (waits j n' s') → InList v log' × (v.source ≡ j) × (part L v.key ≡ n')
           old i = let o = q.pending v j s' n' lj ls ne i in (sub v o.0, o.1, o.2)
 
-      reach' : (v : Version) (s' : ℕ) → s' < L.sites → (s' ≡ v.source → ⊥) → IsIn v log ⊎ ((e ≡ Update v) × (v.source ≡ s) × (part L v.key ≡ n)) →
-          Had L received' s' v ⊎ IsIn (Update v) (sending L.sites waits s n e v.source (part L v.key) s')
+      reach' : (v : Version) (s' : ℕ) → s' < L.sites → (s' ≡ v.source → ⊥) → InList v log ⊎ ((e ≡ Update v) × (v.source ≡ s) × (part L v.key ≡ n)) →
+          Had L received' s' v ⊎ InList (Update v) (sending L.sites waits s n e v.source (part L v.key) s')
       reach' v s' l ne (inl i) = go (q.reach v s' i l ne)
         where
-          go : Had L received s' v ⊎ IsIn (Update v) (waits v.source (part L v.key) s') → Had L received' s' v ⊎ IsIn (Update v) (sending L.sites waits s n e v.source (part L v.key) s')
+          go : Had L received s' v ⊎ InList (Update v) (waits v.source (part L v.key) s') → Had L received' s' v ⊎ InList (Update v) (sending L.sites waits s n e v.source (part L v.key) s')
           go (inl h) = inl (had_rises L s' v issue_rises h)
-          go (inr j) = inr (sending_cases L.sites waits s n e v.source (part L v.key) s' l ne (IsIn (Update v)) (λ _ _. in_left (Update v) (waits v.source (part L v.key) s') (e ∷ []) j) (λ _. j))
-      reach' v s' l ne (inr (same, a, b)) = inr (sending_cases L.sites waits s n e v.source (part L v.key) s' l ne (IsIn (Update v))
-          (λ _ _. subst (λ (x : Entry). IsIn x (waits v.source (part L v.key) s' ++ (e ∷ []))) same (in_end (waits v.source (part L v.key) s') e))
+          go (inr j) = inr (sending_cases L.sites waits s n e v.source (part L v.key) s' l ne (InList (Update v)) (λ _ _. in_left (Update v) (waits v.source (part L v.key) s') (e ∷ []) j) (λ _. j))
+      reach' v s' l ne (inr (same, a, b)) = inr (sending_cases L.sites waits s n e v.source (part L v.key) s' l ne (InList (Update v))
+          (λ _ _. subst (λ (x : Entry). InList x (waits v.source (part L v.key) s' ++ (e ∷ []))) same (in_end (waits v.source (part L v.key) s') e))
           (λ no'. absurd (no' a b)))

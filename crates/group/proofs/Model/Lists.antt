@@ -3,28 +3,28 @@ use Rattle.std.proofs.Common.{◌≡◌, ℕ, suc, ◌<◌, Bool, true, false, c
 use mathlib.Core.Path.{fun_ext}
 use Rattle.std.proofs.lemmas.List.{get_or-set_same, get_or-set_other}
 use Rattle.std.proofs.lemmas.Bool.{and_from, and_parts, both_ways, cases_eq, cond_both, eq-eqb, eqb-false, eqb-true}
-use Rattle.servers.specs.Laws.{IsIn}
+use Rattle.servers.proofs.Elements.{InList}
 
 -- ---- membership
 
-pub in_left : {A : Type 0} (x : A) (xs ys : List A) → IsIn x xs → IsIn x (xs ++ ys)
+pub in_left : {A : Type 0} (x : A) (xs ys : List A) → InList x xs → InList x (xs ++ ys)
 in_left x [] ys h = absurd h
 in_left x (y ∷ xs) ys (inl e) = inl e
 in_left x (y ∷ xs) ys (inr h) = inr (in_left x xs ys h)
 
-pub in_right : {A : Type 0} (x : A) (xs ys : List A) → IsIn x ys → IsIn x (xs ++ ys)
+pub in_right : {A : Type 0} (x : A) (xs ys : List A) → InList x ys → InList x (xs ++ ys)
 in_right x [] ys h = h
 in_right x (y ∷ xs) ys h = inr (in_right x xs ys h)
 
-pub in_either : {A : Type 0} (x : A) (xs ys : List A) → IsIn x (xs ++ ys) → IsIn x xs ⊎ IsIn x ys
+pub in_either : {A : Type 0} (x : A) (xs ys : List A) → InList x (xs ++ ys) → InList x xs ⊎ InList x ys
 in_either x [] ys h = inr h
 in_either x (y ∷ xs) ys (inl e) = inl (inl e)
 in_either x (y ∷ xs) ys (inr h) = ⊎_elim (λ i. inl (inr i)) inr (in_either x xs ys h)
 
-pub in_end : {A : Type 0} (xs : List A) (x : A) → IsIn x (xs ++ (x ∷ []))
+pub in_end : {A : Type 0} (xs : List A) (x : A) → InList x (xs ++ (x ∷ []))
 in_end xs x = in_right x xs (x ∷ []) (inl refl)
 
-pub in_push : {A : Type 0} (x : A) (xs : List A) (y : A) → IsIn x (xs ++ (y ∷ [])) → IsIn x xs ⊎ (x ≡ y)
+pub in_push : {A : Type 0} (x : A) (xs : List A) (y : A) → InList x (xs ++ (y ∷ [])) → InList x xs ⊎ (x ≡ y)
 in_push x xs y h = ⊎_elim inl (λ i. inr (⊎_elim (λ e. e) (λ n. absurd n) i)) (in_either x xs (y ∷ []) h)
 
 -- ---- tables

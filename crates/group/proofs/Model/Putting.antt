@@ -4,8 +4,8 @@ use Rattle.std.proofs.lemmas.Bool.{cases_eq}
 use Rattle.stamps.specs.Rows.{PerSite, HasStamps, at, greatest, with_entry}
 use Rattle.stamps.specs.Kinds.{Kind, IsMark}
 use Rattle.servers.specs.declared.entry.Entry.TheVariants.{Update, Heartbeat}
-use Rattle.servers.specs.Laws.{IsIn}
 use Rattle.servers.specs.declared.version.Version.{Version}
+use Rattle.servers.proofs.Elements.{InList}
 use Rattle.group.specs.Model.Events.{Put}
 use Rattle.group.specs.Model.Pasts.{Pasts}
 use Rattle.group.proofs.Model.Rows.{stamps_entry}
@@ -74,34 +74,34 @@ module _ {k : Kind} {L : Shape} {P : Pasts} {T : Tables} {G : Ghost} (h : Core k
     kept_logs : LogInv k L received' (v ∷ G.log)
     kept_logs = record { source = src; stamped = stm; small = sml; marked = mrk; above = abv; unique = unq }
       where
-        src : (w : Version) → IsIn w (v ∷ G.log) → w.source < L.sites
+        src : (w : Version) → InList w (v ∷ G.log) → w.source < L.sites
         src w (inl e) = subst (λ (x : Version). x.source < L.sites) (sym e) (subst (λ (x : ℕ). x < L.sites) (sym source) in_s)
         src w (inr j) = h.logs.source w j
 
-        stm : (w : Version) → IsIn w (v ∷ G.log) → w.stamp ≤ last received' w.source (part L w.key)
+        stm : (w : Version) → InList w (v ∷ G.log) → w.stamp ≤ last received' w.source (part L w.key)
         stm w (inl e) = subst (λ (x : ℕ). w.stamp ≤ at (received' x (part L w.key)) w.source) (sym (ap (λ (x : Version). x.source) e ∙ source)) (has w e)
         stm w (inr j) = le_trans (h.logs.stamped w j) (last_rises L T.received T.waits G.log h.queues s n (Update v) in_s new w.source (part L w.key) (h.logs.source w j))
 
-        sml : (w : Version) → IsIn w (v ∷ G.log) → w.stamp < 2 ^ 63
+        sml : (w : Version) → InList w (v ∷ G.log) → w.stamp < 2 ^ 63
         sml w (inl e) = subst (λ (x : Version). x.stamp < 2 ^ 63) (sym e) small
         sml w (inr j) = h.logs.small w j
 
-        mrk : (w : Version) → IsIn w (v ∷ G.log) → IsMark k w.mark
+        mrk : (w : Version) → InList w (v ∷ G.log) → IsMark k w.mark
         mrk w (inl e) = subst (λ (x : Version). IsMark k x.mark) (sym e) marked
         mrk w (inr j) = h.logs.marked w j
 
-        abv : (w : Version) → IsIn w (v ∷ G.log) → greatest w.mark < w.stamp
+        abv : (w : Version) → InList w (v ∷ G.log) → greatest w.mark < w.stamp
         abv w (inl e) = subst (λ (x : Version). greatest x.mark < x.stamp) (sym e) above
         abv w (inr j) = h.logs.above w j
 
         -- no version of the log has the new name
-        clash : (w : Version) → IsIn w G.log → name_of w ≡ name_of v → ⊥
+        clash : (w : Version) → InList w G.log → name_of w ≡ name_of v → ⊥
         clash w j e =
             let old : v.stamp ≤ last T.received v.source (part L v.key) = subst (λ (p : Put). p.stamp ≤ last T.received p.source (part L p.key)) e (h.logs.stamped w j) in
             let low : v.stamp ≤ last T.received s n = subst (λ (x : ℕ). v.stamp ≤ last T.received s x) at_n (subst (λ (x : ℕ). v.stamp ≤ last T.received x (part L v.key)) source old) in
             omega arith
 
-        unq : (w x : Version) → IsIn w (v ∷ G.log) → IsIn x (v ∷ G.log) → name_of w ≡ name_of x → w ≡ x
+        unq : (w x : Version) → InList w (v ∷ G.log) → InList x (v ∷ G.log) → name_of w ≡ name_of x → w ≡ x
         unq w x (inl a) (inl b) e = a ∙ sym b
         unq w x (inl a) (inr b) e = absurd (clash x b (sym e ∙ ap name_of a))
         unq w x (inr a) (inl b) e = absurd (clash w a (e ∙ ap name_of b))
@@ -114,34 +114,34 @@ module _ {k : Kind} {L : Shape} {P : Pasts} {T : Tables} {G : Ghost} (h : Core k
     kept_queues = queues_issue L T.received T.waits G.log h.queues s n (Update v) in_s new (v ∷ G.log) (λ w j. inr j)
         (λ w e. let same = update_same v w e in (inl same, ap (λ (x : Version). x.source) same ∙ source, ap (λ (x : Version). part L x.key) same ∙ at_n)) cover
       where
-        cover : (w : Version) → IsIn w (v ∷ G.log) → IsIn w G.log ⊎ ((Update v ≡ Update w) × (w.source ≡ s) × (part L w.key ≡ n))
+        cover : (w : Version) → InList w (v ∷ G.log) → InList w G.log ⊎ ((Update v ≡ Update w) × (w.source ≡ s) × (part L w.key ≡ n))
         cover w (inl e) = inr (ap Update (sym e), ap (λ (x : Version). x.source) e ∙ source, ap (λ (x : Version). part L x.key) e ∙ at_n)
         cover w (inr j) = inl j
 
     kept_holds : HeldInv k L received' held' T.safe (v ∷ G.log)
     kept_holds = record { had = had'; kept = kept' }
       where
-        had' : (w : Version) (s' n' : ℕ) → IsIn w (held' s' n') → IsIn w (v ∷ G.log) × (part L w.key ≡ n') × Had L received' s' w
-        had' w s' n' = set2_cases T.held s n (T.held s n ++ (v ∷ [])) s' n' (λ vs. IsIn w vs → IsIn w (v ∷ G.log) × (part L w.key ≡ n') × Had L received' s' w)
+        had' : (w : Version) (s' n' : ℕ) → InList w (held' s' n') → InList w (v ∷ G.log) × (part L w.key ≡ n') × Had L received' s' w
+        had' w s' n' = set2_cases T.held s n (T.held s n ++ (v ∷ [])) s' n' (λ vs. InList w vs → InList w (v ∷ G.log) × (part L w.key ≡ n') × Had L received' s' w)
             (λ a b j. rw (a, b) (⊎_elim (old s n) (λ e. (inl e, ap (λ (x : Version). part L x.key) e ∙ at_n, has w e)) (in_push w (T.held s n) v j)))
             (λ _ j. old s' n' j)
           where
-            old : (s'' n'' : ℕ) → IsIn w (T.held s'' n'') → IsIn w (v ∷ G.log) × (part L w.key ≡ n'') × Had L received' s'' w
+            old : (s'' n'' : ℕ) → InList w (T.held s'' n'') → InList w (v ∷ G.log) × (part L w.key ≡ n'') × Had L received' s'' w
             old s'' n'' j = let o = h.holds.had w s'' n'' j in (inr o.0, o.1, had_rises L s'' w up o.2)
 
-        grow : (w : Version) (s' n' : ℕ) → IsIn w (T.held s' n') → IsIn w (held' s' n')
-        grow w s' n' j = set2_cases T.held s n (T.held s n ++ (v ∷ [])) s' n' (IsIn w) (λ a b. in_left w (T.held s n) (v ∷ []) (rw (a, b) at j)) (λ _. j)
+        grow : (w : Version) (s' n' : ℕ) → InList w (T.held s' n') → InList w (held' s' n')
+        grow w s' n' j = set2_cases T.held s n (T.held s n ++ (v ∷ [])) s' n' (InList w) (λ a b. in_left w (T.held s n) (v ∷ []) (rw (a, b) at j)) (λ _. j)
 
-        itself : IsIn v (held' s n)
-        itself = set2_cases T.held s n (T.held s n ++ (v ∷ [])) s n (IsIn v) (λ _ _. in_end (T.held s n) v) (λ no'. absurd (no' refl refl))
+        itself : InList v (held' s n)
+        itself = set2_cases T.held s n (T.held s n ++ (v ∷ [])) s n (InList v) (λ _ _. in_end (T.held s n) v) (λ no'. absurd (no' refl refl))
 
-        kept' : (w : Version) (s' : ℕ) → s' < L.sites → IsIn w (v ∷ G.log) → Had L received' s' w → StandsIn k (held' s' (part L w.key)) (T.safe s') w
+        kept' : (w : Version) (s' : ℕ) → s' < L.sites → InList w (v ∷ G.log) → Had L received' s' w → StandsIn k (held' s' (part L w.key)) (T.safe s') w
         kept' w s' l' (inr j) hd = stands_grow _ _ _ w (λ x m. grow x s' (part L w.key) m)
             (h.holds.kept w s' l' j (had_back L T.received T.waits G.log h.queues s n (Update v) in_s new w s' (h.logs.source w j) (h.logs.stamped w j) hd))
         kept' w s' l' (inl e) hd = ⊎_elim
             (λ a. record {
               other = w;
-              there = subst (λ (x : Version). IsIn x (held' s' (part L x.key))) (sym e) (subst (λ (x : ℕ). IsIn v (held' x (part L v.key))) (sym a) (subst (λ (x : ℕ). IsIn v (held' s x)) (sym at_n) itself));
+              there = subst (λ (x : Version). InList x (held' s' (part L x.key))) (sym e) (subst (λ (x : ℕ). InList v (held' x (part L v.key))) (sym a) (subst (λ (x : ℕ). InList v (held' s x)) (sym at_n) itself));
               same_key = refl;
               how = inl refl;
             })

@@ -7,13 +7,13 @@ use Rattle.stamps.specs.declared.refusal.Refusal.TheVariants.{Unlawful}
 use Rattle.stamps.specs.Kinds.{Kind, IsMark}
 use Rattle.servers.specs.declared.entry.Entry.{Entry}
 use Rattle.servers.specs.declared.entry.Entry.TheVariants.{Update, Heartbeat}
-use Rattle.servers.specs.Laws.{IsIn}
 use Rattle.servers.specs.Percents.{checked_percent}
 use Rattle.servers.specs.Values.{value_from}
 use Rattle.servers.specs.declared.value.Value.{Value}
 use Rattle.servers.specs.declared.value.Value.TheVariants.{Gone, Price, Percent, Basis}
 use Rattle.servers.specs.declared.value.Basis.TheVariants.{Part, Sheet}
 use Rattle.servers.specs.declared.version.Version.{Version}
+use Rattle.servers.proofs.Elements.{InList, in_list}
 use Rattle.group.specs.Model.Events.{Put, wrote, History}
 use Rattle.group.specs.Model.Groups.{GroupState}
 use Rattle.group.specs.Model.GroupStore.{IsEntryBounded, IsGroupBounded, IsInRange, IsVersionBounded}
@@ -48,12 +48,12 @@ put_in_range (wrote i key kind amount stamp ∷ h) p x (inr (_, e)) = subst Made
 put_in_range (other ∷ h) p x w = put_in_range h p x w
 
 module _ {k : Kind} {sites : ℕ} {h : History} {g : GroupState} {G : Ghost} (v : Inv k sites h g G) where
-  logged_bounded : (w : Version) → IsIn w G.log → IsVersionBounded k g.sites w
+  logged_bounded : (w : Version) → InList w G.log → IsVersionBounded k g.sites w
   logged_bounded w l =
       record { value = put_in_range h _ w.value (v.written w l); stamp = v.core.logs.small w l; source = v.core.logs.source w l; mark = v.core.logs.marked w l }
 
   -- an entry under way is no later than its server's last stamp
-  entry_bounded : (s n site : ℕ) → s < g.sites → site < g.sites → (site ≡ s → ⊥) → (e : Entry) → IsIn e ((g.server s n).waiting site) → IsEntryBounded k g.sites e
+  entry_bounded : (s n site : ℕ) → s < g.sites → site < g.sites → (site ≡ s → ⊥) → (e : Entry) → InList e ((g.server s n).waiting site) → IsEntryBounded k g.sites e
   entry_bounded s n site ls lt apart (Update w) i = logged_bounded w (v.core.queues.pending w s site n ls lt apart i).0
   entry_bounded s n site ls lt apart (Heartbeat stamp) i =
       let low = chain_below _ _ ((g.server s n).waiting site) (Heartbeat stamp) (v.core.queues.chain s site n ls lt apart) i in
@@ -66,8 +66,8 @@ module _ {k : Kind} {sites : ℕ} {h : History} {g : GroupState} {G : Ghost} (v 
     servers = λ s n ls ln. let f = v.frame.servers s n in record {
       few_versions = f.versions;
       few_entries = f.entries;
-      versions = λ w i. logged_bounded w (v.core.holds.had w s n i).0;
-      entries = λ to lt apart e i. entry_bounded s n to ls lt apart e i;
+      versions = λ w c. logged_bounded w (v.core.holds.had w s n (in_list (g.server s n).held w c)).0;
+      entries = λ to lt apart e c. entry_bounded s n to ls lt apart e (in_list ((g.server s n).waiting to) e c);
       reading = f.reading;
       received = v.core.marks.received_stamps s n;
       reported = v.core.marks.reported_mark s n;

@@ -3,7 +3,7 @@ use Rattle.std.proofs.Common.{◌≡◌, ℕ, suc, ◌<◌, Bool, true, false, c
 use Rattle.std.proofs.lemmas.Bool.{eq-eqb, eqb-true, both_ways}
 use Rattle.stamps.specs.Rows.{PerSite, HasStamps, Covers}
 use Rattle.stamps.specs.Kinds.{Kind, IsMark, IsLawfulKind}
-use Rattle.servers.specs.Laws.{IsIn}
+use Rattle.servers.proofs.Elements.{InList}
 use Rattle.group.specs.Model.Calls.{safe_mark}
 use Rattle.group.specs.Model.Groups.{GroupState, SeatState, session_at, seat_at, stable_at, cuts_of, cuts_at}
 use Rattle.group.proofs.Model.Lists.{in_left, in_right, in_either}
@@ -16,7 +16,7 @@ safe_rows g s = stable_at g s ++ cuts_at g s
 
 -- ---- which cuts are open at a site
 
-pub cut_in : (g : GroupState) (s : ℕ) (ys : List (Option SeatState)) (a : ℕ) (y : SeatState) → get_or ys a None ≡ Some y → (session_at g y.session).site ≡ s → IsIn y.cut (cuts_of g s ys)
+pub cut_in : (g : GroupState) (s : ℕ) (ys : List (Option SeatState)) (a : ℕ) (y : SeatState) → get_or ys a None ≡ Some y → (session_at g y.session).site ≡ s → InList y.cut (cuts_of g s ys)
 cut_in g s [] a y e at_s = absurd (not_some e)
 cut_in g s (None ∷ ys) ℕ.zero y e at_s = absurd (not_some e)
 cut_in g s (None ∷ ys) (suc a) y e at_s = cut_in g s ys a y e at_s
@@ -25,12 +25,12 @@ cut_in g s (Some z ∷ ys) ℕ.zero y e at_s = go (eqb (session_at g z.session).
     same : z ≡ y
     same = some_same e
 
-    go : (b : Bool) → eqb (session_at g z.session).site s ≡ b → IsIn y.cut (cond b (z.cut ∷ cuts_of g s ys) (cuts_of g s ys))
+    go : (b : Bool) → eqb (session_at g z.session).site s ≡ b → InList y.cut (cond b (z.cut ∷ cuts_of g s ys) (cuts_of g s ys))
     go true t = inl (sym (ap (λ (x : SeatState). x.cut) same))
     go false t = absurd (both_ways _ t (eq-eqb _ _ (ap (λ (x : SeatState). (session_at g x.session).site) same ∙ at_s)))
 cut_in g s (Some z ∷ ys) (suc a) y e at_s = go (eqb (session_at g z.session).site s) (cut_in g s ys a y e at_s)
   where
-    go : (b : Bool) → IsIn y.cut (cuts_of g s ys) → IsIn y.cut (cond b (z.cut ∷ cuts_of g s ys) (cuts_of g s ys))
+    go : (b : Bool) → InList y.cut (cuts_of g s ys) → InList y.cut (cond b (z.cut ∷ cuts_of g s ys) (cuts_of g s ys))
     go true i = inr i
     go false i = i
 
@@ -45,12 +45,12 @@ pub record CutOf (g : GroupState) (s : ℕ) (ys : List (Option SeatState)) (x : 
 further : {g : GroupState} {s : ℕ} {ys : List (Option SeatState)} {x : PerSite} (o : Option SeatState) → CutOf g s ys x → CutOf g s (o ∷ ys) x
 further o c = record { place = suc c.place; seat = c.seat; there = c.there; at_site = c.at_site; is = c.is }
 
-pub in_cuts : (g : GroupState) (s : ℕ) (ys : List (Option SeatState)) (x : PerSite) → IsIn x (cuts_of g s ys) → CutOf g s ys x
+pub in_cuts : (g : GroupState) (s : ℕ) (ys : List (Option SeatState)) (x : PerSite) → InList x (cuts_of g s ys) → CutOf g s ys x
 in_cuts g s [] x h = absurd h
 in_cuts g s (None ∷ ys) x h = further None (in_cuts g s ys x h)
 in_cuts g s (Some z ∷ ys) x h = go (eqb (session_at g z.session).site s) refl h (in_cuts g s ys x)
   where
-    go : (b : Bool) → eqb (session_at g z.session).site s ≡ b → IsIn x (cond b (z.cut ∷ cuts_of g s ys) (cuts_of g s ys)) → (IsIn x (cuts_of g s ys) → CutOf g s ys x) → CutOf g s (Some z ∷ ys) x
+    go : (b : Bool) → eqb (session_at g z.session).site s ≡ b → InList x (cond b (z.cut ∷ cuts_of g s ys) (cuts_of g s ys)) → (InList x (cuts_of g s ys) → CutOf g s ys x) → CutOf g s (Some z ∷ ys) x
     go true t (inl e) rec = record { place = 0; seat = z; there = refl; at_site = eqb-true _ _ t; is = e }
     go true t (inr i) rec = further (Some z) (rec i)
     go false t i rec = further (Some z) (rec i)

@@ -2,9 +2,9 @@
 use Rattle.std.proofs.Common.{◌≡◌, ℕ, ◌^◌, ◌<◌, ◌⊎◌, List, sym, ◌∙◌, subst, inl, inr, le_trans, arith}
 use Rattle.stamps.specs.Rows.{PerSite, Covers}
 use Rattle.stamps.specs.Kinds.{Kind, IsLawfulKind}
-use Rattle.servers.specs.Laws.{IsIn}
 use Rattle.servers.specs.Versions.{full_mark}
 use Rattle.servers.specs.declared.version.Version.{Version}
+use Rattle.servers.proofs.Elements.{InList}
 use Rattle.group.specs.Model.Events.{Put}
 use Rattle.group.specs.Model.Pasts.{Pasts, of_session, pasts_with_shown}
 use Rattle.group.proofs.Model.Rows.{covers_trans, covers_at, full_mark_lem, full_stamp}
@@ -27,7 +27,7 @@ module _ {k : Kind} (law : IsLawfulKind k) (L : Shape) where
 
   -- the past of a version that is clear at site s is reached there
   through : (received stable : ℕ → ℕ → PerSite) {log : List Version} (s : ℕ) {mark : PerSite} (clear : PerSite) {p : Put} (v : Version) →
-      LogInv k L received log → IsIn v log → Below L received s clear → Covers mark (full_mark k v) → Clear stable s clear v →
+      LogInv k L received log → InList v log → Below L received s clear → Covers mark (full_mark k v) → Clear stable s clear v →
       Reached k L received log v.source v.mark (stable v.source (part L v.key)) p → Reached k L received log s mark clear p
   through received stable s clear v logs i b c (inl (own, st)) r = record {
     version = r.version;
@@ -54,7 +54,7 @@ module _ {k : Kind} (law : IsLawfulKind k) (L : Shape) where
       }
 
   -- session i has been shown v, and depends on it and knows what it needs already
-  pub seen_too : {P : Pasts} {T : Tables} {G : Ghost} (i : ℕ) (v : Version) → i < T.opened → IsIn v G.log → Had L T.received (T.session i).site v →
+  pub seen_too : {P : Pasts} {T : Tables} {G : Ghost} (i : ℕ) (v : Version) → i < T.opened → InList v G.log → Had L T.received (T.session i).site v →
       Covers (T.session i).depends (full_mark k v) → Clear T.stable (T.session i).site (T.session i).knows v →
       Core k L P T G → Core k L (pasts_with_shown P i (name_of v)) T G
   seen_too {P = P} {T = T} {G = G} i v l logged had dep clear h = record {

@@ -11,12 +11,12 @@ use Rattle.stamps.specs.Kinds.{Kind, IsMark, IsLawfulKind}
 use Rattle.servers.specs.Entries.{entry_stamp}
 use Rattle.servers.specs.declared.entry.Entry.{Entry}
 use Rattle.servers.specs.declared.entry.Entry.TheVariants.{Update, Heartbeat}
-use Rattle.servers.specs.Laws.{IsIn}
 use Rattle.servers.specs.Others.{is_other}
 use Rattle.servers.specs.Outboxes.{Queues, first, is_queue_full, issue_entry, next_for, is_outbox_full, take_entry}
 use Rattle.servers.specs.Servers.{MarksState, ServerState, server_tell, server_tell_checked, server_heartbeat, server_heartbeat_with, last_of, server_issue, server_keep, server_receive as receiving_server, server_take, server_take_other, server_hand_over, server_raise, server_report, server_tidy}
 use Rattle.servers.specs.Tables.{is_table_full}
 use Rattle.servers.specs.declared.version.Version.{Version}
+use Rattle.servers.proofs.Elements.{InList}
 use Rattle.servers.proofs.RowEntries.{by_site}
 use Rattle.servers.proofs.Tidied.{tidied_law}
 use Rattle.group.specs.Model.Calls.{has_server, server_left, on_server, change_server, deliver_entry, deliver_left, safe_mark, with_ok}
@@ -115,7 +115,7 @@ module _ {k : Kind} (law : IsLawfulKind k) {sites : ℕ} {h : History} {g : Grou
       m : PerSite
       m = common_floor k (reported_at g s)
 
-      stamps : (x : PerSite) → IsIn x rows → HasStamps x
+      stamps : (x : PerSite) → InList x rows → HasStamps x
       stamps x i = let r = first_in (λ j. (g.server s j).marks.reported) g.partitions x i in subst HasStamps (sym r.2) (v.core.marks.reported_mark s r.0).0
 
       low : Below L (λ i j. (g.server i j).marks.received) s m

@@ -1,5 +1,5 @@
 -- The promises about sessions, from the invariant.
-use Rattle.std.proofs.Common.{◌≡◌, ℕ, ◌%◌, ◌<◌, ◌≤◌, true, eqb, ltb, ◌⊎◌, List, [], ◌∷◌, length, Some, None, Ok, Err, Option, Result, sym, refl, ap, ◌∙◌, subst, inl, inr, ⊎_elim, arith}
+use Rattle.std.proofs.Common.{◌≡◌, ℕ, ◌%◌, ◌<◌, ◌≤◌, true, eqb, ltb, ◌⊎◌, List, [], ◌∷◌, Contains, length, Some, None, Ok, Err, Option, Result, sym, refl, ap, ◌∙◌, subst, inl, inr, ⊎_elim, arith}
 use Rattle.std.specs.List.{flat_map}
 use Rattle.std.proofs.lemmas.Bool.{cond_both, cond-true, eq-eqb, lt-ltb, ltb-true, or_left, or_right}
 use Rattle.stamps.specs.declared.refusal.Refusal.{Refusal}
@@ -7,7 +7,7 @@ use Rattle.stamps.specs.declared.refusal.Refusal.TheVariants.{NoSession, TableFu
 use Rattle.stamps.specs.Clocks.{Rule, IsAllowed, IsLawfulRule}
 use Rattle.stamps.specs.Rows.{PerSite, Covers, at, greatest, join}
 use Rattle.stamps.specs.Kinds.{Kind, IsMark, IsLawfulKind}
-use Rattle.servers.specs.Laws.{IsIn, IsLatest, Passes}
+use Rattle.servers.specs.Laws.{IsLatest, Passes}
 use Rattle.servers.specs.Outboxes.{is_outbox_full}
 use Rattle.servers.specs.Servers.{ServerState, last_of, latest_visible, server_put_with, sees}
 use Rattle.servers.specs.Tables.{is_table_full}
@@ -15,6 +15,7 @@ use Rattle.servers.specs.Values.{value_from}
 use Rattle.servers.specs.declared.value.Value.{Value}
 use Rattle.servers.specs.Versions.{full_mark}
 use Rattle.servers.specs.declared.version.Version.{Version}
+use Rattle.servers.proofs.Elements.{InList, contained, in_list}
 use Rattle.servers.proofs.Latest.{latest_law}
 use Rattle.group.specs.Model.Calls.{step, informed_server, learn, put_left, put_value, safe_mark, show, shown_of}
 use Rattle.group.specs.Model.Events.{Put, IsAsLate, IsLater, Shown, put_shown, get, put, History}
@@ -34,23 +35,23 @@ use Rattle.group.proofs.Model.Histories.{Inv, shown_option}
 
 -- ---- what a site holds, by its servers
 
-in_flat_map : {A B : Type 0} (f : B → List A) (x : A) (ys : List B) → IsIn x (flat_map f ys) → (y : B) × IsIn y ys × IsIn x (f y)
+in_flat_map : {A B : Type 0} (f : B → List A) (x : A) (ys : List B) → InList x (flat_map f ys) → (y : B) × InList y ys × InList x (f y)
 in_flat_map f x [] i = absurd i
 in_flat_map f x (y ∷ ys) i = ⊎_elim (λ j. (y, inl refl, j)) (λ j. let r = in_flat_map f x ys j in (r.0, inr r.1, r.2)) (in_either x (f y) (flat_map f ys) i)
 
-flat_map_in : {A B : Type 0} (f : B → List A) (x : A) (ys : List B) (y : B) → IsIn y ys → IsIn x (f y) → IsIn x (flat_map f ys)
+flat_map_in : {A B : Type 0} (f : B → List A) (x : A) (ys : List B) (y : B) → InList y ys → InList x (f y) → InList x (flat_map f ys)
 flat_map_in f x [] y i j = absurd i
-flat_map_in f x (z ∷ ys) y (inl e) j = in_left x (f z) (flat_map f ys) (subst (λ b. IsIn x (f b)) e j)
+flat_map_in f x (z ∷ ys) y (inl e) j = in_left x (f z) (flat_map f ys) (subst (λ b. InList x (f b)) e j)
 flat_map_in f x (z ∷ ys) y (inr i) j = in_right x (f z) (flat_map f ys) (flat_map_in f x ys y i j)
 
-pub held_from : (g : GroupState) (s : ℕ) (w : Version) → IsIn w (versions_at g s) → (n : ℕ) × (n < g.partitions) × IsIn w (g.server s n).held
-held_from g s w i =
-    let r = in_flat_map (λ (t : ServerState). t.held) w (tabulate (g.server s) g.partitions) i in
+pub held_from : (g : GroupState) (s : ℕ) (w : Version) → Contains (versions_at g s) w → (n : ℕ) × (n < g.partitions) × InList w (g.server s n).held
+held_from g s w c =
+    let r = in_flat_map (λ (t : ServerState). t.held) w (tabulate (g.server s) g.partitions) (in_list (versions_at g s) w c) in
     let f = first_in (g.server s) g.partitions r.0 r.1 in
-    (f.0, f.1, subst (λ (t : ServerState). IsIn w t.held) f.2 r.2)
+    (f.0, f.1, subst (λ (t : ServerState). InList w t.held) f.2 r.2)
 
-pub held_in : (g : GroupState) (s n : ℕ) (w : Version) → n < g.partitions → IsIn w (g.server s n).held → IsIn w (versions_at g s)
-held_in g s n w l i = flat_map_in (λ (t : ServerState). t.held) w (tabulate (g.server s) g.partitions) (g.server s n) (in_first (g.server s) g.partitions n l) i
+pub held_in : (g : GroupState) (s n : ℕ) (w : Version) → n < g.partitions → InList w (g.server s n).held → Contains (versions_at g s) w
+held_in g s n w l i = contained (versions_at g s) w (flat_map_in (λ (t : ServerState). t.held) w (tabulate (g.server s) g.partitions) (g.server s n) (in_first (g.server s) g.partitions n l) i)
 
 pub showing_answer : (k : Kind) (g : GroupState) (i : ℕ) (o : Option Version) → (show k g i o).0 ≡ Ok (shown_option o)
 showing_answer k g i None = refl
@@ -60,7 +61,7 @@ module _ {k : Kind} (law : IsLawfulKind k) {sites : ℕ} {h : History} {g : Grou
   abbrev L : Shape
   L = shape g v.frame.layout.few_sites v.frame.layout.some_partitions
 
-  source_four : (w : Version) → IsIn w G.log → w.source < 4
+  source_four : (w : Version) → InList w G.log → w.source < 4
   source_four w i = let s = v.core.logs.source w i in let f = v.frame.layout.few_sites in omega arith
 
   -- (a) a put is later than each put of its key in its past, of whatever key
@@ -124,8 +125,8 @@ module _ {k : Kind} (law : IsLawfulKind k) {sites : ℕ} {h : History} {g : Grou
         x : StandsIn k (g.server s (part L r.version.key)).held (safe_mark k g s) r.version
         x = v.core.holds.kept r.version s (v.core.sessions i l).inside r.logged r.here
 
-        there : IsIn x.other (g.server s n).held
-        there = subst (λ (z : ℕ). IsIn x.other (g.server s (part L z)).held) key_is x.there
+        there : Contains (g.server s n).held x.other
+        there = contained (g.server s n).held x.other (subst (λ (z : ℕ). InList x.other (g.server s (part L z)).held) key_is x.there)
 
         seen_itself : (r.version.source ≡ s) ⊎ Covers (session_at g i).knows (full_mark k r.version) → sees k heard r.version ≡ true
         seen_itself (inl own) = or_left (eqb r.version.source heard.site) _ (eq-eqb _ _ (own ∙ sym (v.frame.servers s n).site_is))
@@ -152,31 +153,31 @@ module _ {k : Kind} (law : IsLawfulKind k) {sites : ℕ} {h : History} {g : Grou
         go (Some w) best e =
             let same : shown_of w ≡ u = cc in
             subst (λ (z : Shown). WasPut h (put_shown key z) z.value) same
-            (subst (λ (z : ℕ). WasPut h (record { key = z; stamp = w.stamp; source = w.source }) w.value) best.1.0 (v.written w (v.core.holds.had w s n best.0).0))
+            (subst (λ (z : ℕ). WasPut h (record { key = z; stamp = w.stamp; source = w.source }) w.value) best.1.0 (v.written w (v.core.holds.had w s n (in_list (g.server s n).held w best.0)).0))
 
     -- the get shows none exactly when the site holds no version of the key that the session may see
-    pub none_seen : shown_option found ≡ None → (w : Version) → IsIn w (versions_at g s) → w.key ≡ key → may_see k g i w ≡ true → ⊥
-    none_seen e w i' same may = go found get_latest e
+    pub none_seen : shown_option found ≡ None → (w : Version) → Contains (versions_at g s) w → w.key ≡ key → may_see k g i w ≡ true → ⊥
+    none_seen e w there same may = go found get_latest e
       where
-        held : IsIn w (g.server s n).held
+        held : InList w (g.server s n).held
         held =
-            let r = held_from g s w i' in
+            let r = held_from g s w there in
             let at_n : part L w.key ≡ r.0 = (v.core.holds.had w s r.0 r.2).1 in
-            subst (λ (z : ℕ). IsIn w (g.server s (part L z)).held) same (subst (λ (z : ℕ). IsIn w (g.server s z).held) (sym at_n) r.2)
+            subst (λ (z : ℕ). InList w (g.server s (part L z)).held) same (subst (λ (z : ℕ). InList w (g.server s z).held) (sym at_n) r.2)
 
         passes : Passes (sees k heard) key w
         passes = (same, subst (λ (z : ℕ). sees k (informed_server k g (session_at g i) (z % g.partitions)) w ≡ true) same may)
 
         go : (o : Option Version) → IsLatest (sees k heard) key (g.server s n).held o → shown_option o ≡ None → ⊥
-        go None best f = best w held passes
+        go None best f = best w (contained (g.server s n).held w held) passes
         go (Some u) best f = let z : ◌≡◌ {A = ℕ} 0 1 = cc in absurd (omega arith)
 
-    pub some_seen : (u : Shown) → shown_option found ≡ Some u → (w : Version) × IsIn w (versions_at g s) × (w.key ≡ key) × (may_see k g i w ≡ true)
+    pub some_seen : (u : Shown) → shown_option found ≡ Some u → (w : Version) × Contains (versions_at g s) w × (w.key ≡ key) × (may_see k g i w ≡ true)
     some_seen u = go found get_latest
       where
-        go : (o : Option Version) → IsLatest (sees k heard) key (g.server s n).held o → shown_option o ≡ Some u → (w : Version) × IsIn w (versions_at g s) × (w.key ≡ key) × (may_see k g i w ≡ true)
+        go : (o : Option Version) → IsLatest (sees k heard) key (g.server s n).held o → shown_option o ≡ Some u → (w : Version) × Contains (versions_at g s) w × (w.key ≡ key) × (may_see k g i w ≡ true)
         go None best e = let z : ◌≡◌ {A = ℕ} 0 1 = cc in absurd (omega arith)
-        go (Some w) best e = (w, held_in g s n w (part_small L key) best.0, best.1.0, subst (λ (z : ℕ). sees k (informed_server k g (session_at g i) (z % g.partitions)) w ≡ true) (sym best.1.0) best.1.1)
+        go (Some w) best e = (w, held_in g s n w (part_small L key) (in_list (g.server s n).held w best.0), best.1.0, subst (λ (z : ℕ). sees k (informed_server k g (session_at g i) (z % g.partitions)) w ≡ true) (sym best.1.0) best.1.1)
 
   -- a get that is answered is a get of an open session
   pub get_open : (rule : Rule) (i key : ℕ) (o : Option Shown) → (step rule k g (get i key)).0 ≡ Ok o → i < length g.sessions

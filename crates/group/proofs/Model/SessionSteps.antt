@@ -8,7 +8,7 @@ use Rattle.stamps.specs.Clocks.{Rule, IsAllowed, IsLawfulRule}
 use Rattle.stamps.specs.Rows.{PerSite, Covers, at, greatest, join, with_entry}
 use Rattle.stamps.specs.Kinds.{Kind, IsMark, IsLawfulKind}
 use Rattle.servers.specs.declared.entry.Entry.TheVariants.{Update}
-use Rattle.servers.specs.Laws.{IsIn, IsLatest}
+use Rattle.servers.specs.Laws.{IsLatest}
 use Rattle.servers.specs.Outboxes.{is_outbox_full}
 use Rattle.servers.specs.Servers.{ServerState, server_put_with, put_version, server_issue, server_keep, last_of, server_raise as raised_server, sees, latest_visible}
 use Rattle.servers.specs.Tables.{is_covered, is_table_full}
@@ -16,6 +16,7 @@ use Rattle.servers.specs.Values.{value_from}
 use Rattle.servers.specs.declared.value.Value.{Value}
 use Rattle.servers.specs.Versions.{full_mark}
 use Rattle.servers.specs.declared.version.Version.{Version}
+use Rattle.servers.proofs.Elements.{InList, in_list}
 use Rattle.servers.proofs.Latest.{latest_law}
 use Rattle.group.specs.Model.Calls.{open_session_step, on_session, put_left, put_value, with_depends, shown_of, show, informed_server, learn}
 use Rattle.group.specs.Model.Events.{Put, IsAsLate, Shown, Ticket, open_session, put, get, what_is_told, session_opened, wrote, got, read_by, History}
@@ -47,7 +48,7 @@ not_got t key i j o p e = let z : ◌≡◌ {A = ℕ} 0 1 = cc in omega arith
 
 -- session i has been shown w, and depends on it from then on
 pub see_core : {k : Kind} (law : IsLawfulKind k) {P : Pasts} {G : Ghost} (g : GroupState) (four : g.sites ≤ 4) (some : 1 ≤ g.partitions) (core : Core k (shape g four some) P (tables k g) G)
-    (i : ℕ) (w : Version) → i < length g.sessions → IsIn w G.log → Had (shape g four some) (λ s n. (g.server s n).marks.received) (session_at g i).site w →
+    (i : ℕ) (w : Version) → i < length g.sessions → InList w G.log → Had (shape g four some) (λ s n. (g.server s n).marks.received) (session_at g i).site w →
     Clear law (shape g four some) (λ s n. (g.server s n).marks.stable) (session_at g i).site (session_at g i).knows w →
     Core k (shape g four some) (pasts_with_shown P i (name_of w)) (tables k (with_session g i (with_depends (session_at g i) (join (k.floor (session_at g i).depends) (full_mark k w))))) G
 see_core {k} law {P} {G} g four some core i w l logged' had clear =
@@ -244,23 +245,23 @@ module _ {k : Kind} (law : IsLawfulKind k) {sites : ℕ} {h : History} {g : Grou
       best' : (q : ℕ) → q < g.next_serial → (j : ℕ) (o : Option Version) → Best k G.log (G.cut_of q) j o → Best k (ver t ∷ G.log) (G.cut_of q) j o
       best' q lq j None b = none
         where
-          none : (w : Version) → IsIn w (ver t ∷ G.log) → w.key ≡ j → Covers (G.cut_of q) (full_mark k w) → ⊥
+          none : (w : Version) → InList w (ver t ∷ G.log) → w.key ≡ j → Covers (G.cut_of q) (full_mark k w) → ⊥
           none w (inl d) e c = uncovered q lq (subst (λ (u : Version). Covers (G.cut_of q) (full_mark k u)) d c)
           none w (inr m) e c = b w m e c
       best' q lq j (Some u) b = (inr b.0, b.1, b.2, top)
         where
-          top : (w : Version) → IsIn w (ver t ∷ G.log) → w.key ≡ j → Covers (G.cut_of q) (full_mark k w) → IsAsLate (name_of u) (name_of w)
+          top : (w : Version) → InList w (ver t ∷ G.log) → w.key ≡ j → Covers (G.cut_of q) (full_mark k w) → IsAsLate (name_of u) (name_of w)
           top w (inl d) e c = absurd (uncovered q lq (subst (λ (z : Version). Covers (G.cut_of q) (full_mark k z)) d c))
           top w (inr m) e c = b.3 w m e c
 
       grows : Grows k g.next_serial g.next_serial G G'
       grows = record { more = le_refl g.next_serial; same_cut = λ q lq. refl; best = best' }
 
-      written' : (w : Version) → IsIn w (ver t ∷ G.log) → WasPut (wrote i key kind amount t ∷ h) (name_of w) w.value
+      written' : (w : Version) → InList w (ver t ∷ G.log) → WasPut (wrote i key kind amount t ∷ h) (name_of w) w.value
       written' w (inl e) = subst (λ (z : Version). WasPut (wrote i key kind amount t ∷ h) (name_of z) z.value) (sym e) (inr (named, lawful))
       written' w (inr j) = inl (v.written w j)
 
-      logged' : (p : Put) (y : Value) → WasPut (wrote i key kind amount t ∷ h) p y → (w : Version) × IsIn w (ver t ∷ G.log) × (name_of w ≡ p)
+      logged' : (p : Put) (y : Value) → WasPut (wrote i key kind amount t ∷ h) p y → (w : Version) × InList w (ver t ∷ G.log) × (name_of w ≡ p)
       logged' p y (inl o) = let r = v.logged p y o in (r.0, inr r.1, r.2)
       logged' p y (inr (e, _)) = (ver t, inl refl, named ∙ sym e)
 
@@ -462,13 +463,13 @@ module _ {k : Kind} (law : IsLawfulKind k) {sites : ℕ} {h : History} {g : Grou
           here : session_at g1 i ≡ known i (partition_of g key) l
           here = learn_session i (partition_of g key) l
 
-          held : IsIn w (g1.server y.site n).held
-          held = subst (λ (z : ServerState). IsIn w z.held) (sym (set2_here g.server y.site n heard')) best.0
+          held : InList w (g1.server y.site n).held
+          held = subst (λ (z : ServerState). InList w z.held) (sym (set2_here g.server y.site n heard')) (in_list heard'.held w best.0)
 
-          had_there : IsIn w G.log × (part L w.key ≡ n) × Had L (λ a b. (g1.server a b).marks.received) y.site w
+          had_there : InList w G.log × (part L w.key ≡ n) × Had L (λ a b. (g1.server a b).marks.received) y.site w
           had_there = core1.holds.had w y.site n held
 
-          logged' : IsIn w G.log
+          logged' : InList w G.log
           logged' = had_there.0
 
           had : Had L (λ a b. (g1.server a b).marks.received) (session_at g1 i).site w

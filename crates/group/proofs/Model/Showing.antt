@@ -2,10 +2,11 @@
 use Rattle.std.proofs.Common.{◌≡◌, ℕ, ◌<◌, ◌⊎◌, List, Some, None, Option, sym, refl, ap, ◌∙◌, subst, inl, inr, arith}
 use Rattle.stamps.specs.Rows.{PerSite, Covers}
 use Rattle.stamps.specs.Kinds.{Kind, IsLawfulKind}
-use Rattle.servers.specs.Laws.{IsIn, IsLatest, Passes}
+use Rattle.servers.specs.Laws.{IsLatest, Passes}
 use Rattle.servers.specs.Tables.{is_covered}
 use Rattle.servers.specs.Versions.{full_mark}
 use Rattle.servers.specs.declared.version.Version.{Version}
+use Rattle.servers.proofs.Elements.{InList, contained, in_list}
 use Rattle.group.specs.Model.Events.{Put, IsAsLate, IsLater}
 use Rattle.group.specs.Model.Pasts.{Pasts}
 use Rattle.group.proofs.Model.Rows.{covers_trans, covers_true, covers_from}
@@ -31,12 +32,12 @@ same_time p q a b =
 
 -- o is the latest version of a key in the log that m covers
 abbrev pub Best : Kind → List Version → PerSite → ℕ → Option Version → Type 0
-Best k log m key None = (v : Version) → IsIn v log → v.key ≡ key → Covers m (full_mark k v) → ⊥
+Best k log m key None = (v : Version) → InList v log → v.key ≡ key → Covers m (full_mark k v) → ⊥
 Best k log m key (Some w) =
-    IsIn w log × (w.key ≡ key) × Covers m (full_mark k w) × ((v : Version) → IsIn v log → v.key ≡ key → Covers m (full_mark k v) → IsAsLate (name_of w) (name_of v))
+    InList w log × (w.key ≡ key) × Covers m (full_mark k w) × ((v : Version) → InList v log → v.key ≡ key → Covers m (full_mark k v) → IsAsLate (name_of w) (name_of v))
 
 -- the log has one latest version
-pub best_same : (k : Kind) (log : List Version) (m : PerSite) (key : ℕ) → ((v w : Version) → IsIn v log → IsIn w log → name_of v ≡ name_of w → v ≡ w) →
+pub best_same : (k : Kind) (log : List Version) (m : PerSite) (key : ℕ) → ((v w : Version) → InList v log → InList w log → name_of v ≡ name_of w → v ≡ w) →
     (o p : Option Version) → Best k log m key o → Best k log m key p → o ≡ p
 best_same k log m key unique None None b c = refl
 best_same k log m key unique None (Some w) b c = absurd (b w c.0 c.1 c.2)
@@ -57,11 +58,11 @@ stands_late {k} {vs} {safe} {v} x = go x.how
 module _ {k : Kind} (law : IsLawfulKind k) (L : Shape) {P : Pasts} {T : Tables} {G : Ghost} (h : Core k L P T G) (m : PerSite) (s key : ℕ)
     (ls : s < L.sites) (b : Below L T.received s m) (over : Covers m (T.safe s)) where
   -- whatever the cut covers is held, or a later one that the cut covers is
-  cut_holds : (v : Version) → IsIn v G.log → v.key ≡ key → Covers m (full_mark k v) →
-      (w : Version) × IsIn w (T.held s (part L key)) × Passes (is_covered k m) key w × IsAsLate (name_of w) (name_of v)
+  cut_holds : (v : Version) → InList v G.log → v.key ≡ key → Covers m (full_mark k v) →
+      (w : Version) × InList w (T.held s (part L key)) × Passes (is_covered k m) key w × IsAsLate (name_of w) (name_of v)
   cut_holds v i e c = (
     x.other,
-    subst (λ (z : ℕ). IsIn x.other (T.held s (part L z))) e x.there,
+    subst (λ (z : ℕ). InList x.other (T.held s (part L z))) e x.there,
     (x.same_key ∙ e, covers_from m (full_mark k x.other) (cov x.how)),
     stands_late x,
   )
@@ -74,10 +75,10 @@ module _ {k : Kind} (law : IsLawfulKind k) (L : Shape) {P : Pasts} {T : Tables} 
       cov (inr (_, d)) = covers_trans over d
 
   pub best_read : (o : Option Version) → IsLatest (is_covered k m) key (T.held s (part L key)) o → Best k G.log m key o
-  best_read None best = λ v i e c. let w = cut_holds v i e c in best w.0 w.1 w.2
+  best_read None best = λ v i e c. let w = cut_holds v i e c in best w.0 (contained (T.held s (part L key)) w.0 w.1) w.2
   best_read (Some u) best = (
-    (h.holds.had u s (part L key) best.0).0,
+    (h.holds.had u s (part L key) (in_list (T.held s (part L key)) u best.0)).0,
     best.1.0,
     covers_true m (full_mark k u) best.1.1,
-    λ v i e c. let w = cut_holds v i e c in as_late_trans (name_of u) (name_of w.0) (name_of v) (best.2 w.0 w.1 w.2) w.3,
+    λ v i e c. let w = cut_holds v i e c in as_late_trans (name_of u) (name_of w.0) (name_of v) (best.2 w.0 (contained (T.held s (part L key)) w.0 w.1) w.2) w.3,
   )

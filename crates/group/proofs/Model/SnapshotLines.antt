@@ -1,16 +1,17 @@
 -- The promises about snapshots, from the invariant.
-use Rattle.std.proofs.Common.{◌≡◌, ℕ, ◌<◌, eqb, List, ◌∷◌, Some, None, Ok, Err, Option, Result, sym, refl, ap, ◌∙◌, subst, inl, arith}
+use Rattle.std.proofs.Common.{◌≡◌, ℕ, ◌<◌, eqb, List, ◌∷◌, Contains, Some, None, Ok, Err, Option, Result, sym, refl, ap, ◌∙◌, subst, inl, arith}
 use Rattle.std.proofs.lemmas.Bool.{cond_both, cond-true, eq-eqb}
 use Rattle.stamps.specs.declared.refusal.Refusal.{Refusal}
 use Rattle.stamps.specs.declared.refusal.Refusal.TheVariants.{NotOpen}
 use Rattle.stamps.specs.Clocks.{Rule, IsLawfulRule}
 use Rattle.stamps.specs.Rows.{PerSite, Covers}
 use Rattle.stamps.specs.Kinds.{Kind, IsLawfulKind}
-use Rattle.servers.specs.Laws.{IsIn, IsLatest}
+use Rattle.servers.specs.Laws.{IsLatest}
 use Rattle.servers.specs.Servers.{latest_covered, server_raise as raised_server}
 use Rattle.servers.specs.Tables.{is_covered}
 use Rattle.servers.specs.Versions.{full_mark}
 use Rattle.servers.specs.declared.version.Version.{Version}
+use Rattle.servers.proofs.Elements.{in_list}
 use Rattle.servers.proofs.Latest.{latest_law}
 use Rattle.group.specs.Model.Calls.{step, on_seat_of, show, shown_of}
 use Rattle.group.specs.Model.Events.{Put, IsAsLate, Shown, put_shown, Ticket, Call, open_snapshot, read, what_is_told, read_by, History}
@@ -71,7 +72,7 @@ module _ {k : Kind} (law : IsLawfulKind k) {sites : ℕ} {h : History} {g : Grou
       shown y (Some w) best e =
           let same : shown_of w ≡ u = cc in
           subst (λ (z : Shown). WasPut h (put_shown key z) z.value) same
-          (subst (λ (z : ℕ). WasPut h (record { key = z; stamp = w.stamp; source = w.source }) w.value) best.1.0 (v.written w (v.core.holds.had w (session_at g y.session).site (partition_of g key) best.0).0))
+          (subst (λ (z : ℕ). WasPut h (record { key = z; stamp = w.stamp; source = w.source }) w.value) best.1.0 (v.written w (v.core.holds.had w (session_at g y.session).site (partition_of g key) (in_list (g.server (session_at g y.session).site (partition_of g key)).held w best.0)).0))
 
       at_seat : (o : Option SeatState) → (on_seat_of g t.serial o (read_from k g key)).0 ≡ Ok (Some u) → WasPut h (put_shown key u) u.value
       at_seat None = λ e. let z : ◌≡◌ {A = ℕ} 0 1 = cc in absurd (omega arith)
@@ -81,9 +82,9 @@ module _ {k : Kind} (law : IsLawfulKind k) {sites : ℕ} {h : History} {g : Grou
           (λ _ e. let z : ◌≡◌ {A = ℕ} 0 1 = cc in absurd (omega arith))
 
   -- of one snapshot's answers, not one is older than a put of its key in the past of any of them
-  pub whole : (t : Ticket) (key other : ℕ) (o : Option Shown) (u : Shown) (p : Put) → IsIn (read_by t key o) h → IsIn (read_by t other (Some u)) h →
+  pub whole : (t : Ticket) (key other : ℕ) (o : Option Shown) (u : Shown) (p : Put) → Contains h (read_by t key o) → Contains h (read_by t other (Some u)) →
       HasInPast h (of_put (put_shown other u)) p → p.key ≡ key → ShowsAsLate key (Ok o) p
-  whole t key other o u p i j past same_key = go (v.reads t key o i) (v.reads t other (Some u) j)
+  whole t key other o u p i j past same_key = go (v.reads t key o (in_list h (read_by t key o) i)) (v.reads t other (Some u) (in_list h (read_by t other (Some u)) j))
     where
       b : Before k L (λ s n. (g.server s n).marks.received) (λ s n. (g.server s n).marks.stable) G.log (put_shown other u) p
       b = v.core.pasts.of_put_lem (put_shown other u) p past

@@ -5,11 +5,12 @@ use Rattle.stamps.specs.declared.refusal.Refusal.{Refusal}
 use Rattle.stamps.specs.declared.refusal.Refusal.TheVariants.{NotInLayout, NoSession, NoneFree, NotOpen, End}
 use Rattle.stamps.specs.Rows.{PerSite, Covers, join}
 use Rattle.stamps.specs.Kinds.{Kind, IsMark, IsLawfulKind}
-use Rattle.servers.specs.Laws.{IsIn, IsLatest}
+use Rattle.servers.specs.Laws.{IsLatest}
 use Rattle.servers.specs.Servers.{ServerState, server_raise as raised_server, latest_covered}
 use Rattle.servers.specs.Tables.{is_covered}
 use Rattle.servers.specs.Versions.{full_mark}
 use Rattle.servers.specs.declared.version.Version.{Version}
+use Rattle.servers.proofs.Elements.{InList, in_list}
 use Rattle.servers.proofs.Latest.{latest_law}
 use Rattle.group.specs.Model.Calls.{with_depends, informed_server, learn, on_seat, on_seat_of, on_session, show, shown_of, open_snapshot_at}
 use Rattle.group.specs.Model.Events.{Put, Shown, put_shown, Ticket, open_snapshot, read, close, what_is_told, snapshot_opened, read_by, snapshot_closed, Done, History}
@@ -265,7 +266,7 @@ module _ {k : Kind} (law : IsLawfulKind k) {sites : ℕ} {h : History} {g : Grou
 
     -- what this read answers is right, and so is what was read before
     reads_right : (t : Ticket) → y.serial ≡ t.serial → (o : Option Version) → IsLatest (is_covered k (k.floor y.cut)) key (g.server s n).held o →
-        (u : Ticket) (j : ℕ) (p : Option Shown) → IsIn (read_by u j p) (read_by t key (shown_option o) ∷ h) → ReadRight k G g.next_serial u j p
+        (u : Ticket) (j : ℕ) (p : Option Shown) → InList (read_by u j p) (read_by t key (shown_option o) ∷ h) → ReadRight k G g.next_serial u j p
     reads_right t same o best u j p (inl e) =
         let q = read_same u t j key p (shown_option o) e in
         let serials : y.serial ≡ u.serial = same ∙ sym (ap (λ (z : Ticket). z.serial) q.0) in
@@ -322,8 +323,8 @@ module _ {k : Kind} (law : IsLawfulKind k) {sites : ℕ} {h : History} {g : Grou
         x2 : SessionState
         x2 = with_depends (session_at g y.session) (join (k.floor (session_at g y.session).depends) (full_mark k w))
 
-        had_there : IsIn w G.log × (part L w.key ≡ n) × Had L (λ i j. (g1.server i j).marks.received) s w
-        had_there = core1.holds.had w s n (subst (λ (z : ServerState). IsIn w z.held) (sym (set2_here g.server s n server')) best.0)
+        had_there : InList w G.log × (part L w.key ≡ n) × Had L (λ i j. (g1.server i j).marks.received) s w
+        had_there = core1.holds.had w s n (subst (λ (z : ServerState). InList w z.held) (sym (set2_here g.server s n server')) (in_list (g.server s n).held w best.0))
 
         clear : Covers x.knows (full_mark k w)
         clear = covers_trans seat.covered (covers_trans (floor_under law cut_mark.0) (covers_true (k.floor y.cut) (full_mark k w) best.1.1))

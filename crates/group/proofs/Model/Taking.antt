@@ -6,9 +6,9 @@ use Rattle.stamps.specs.Kinds.{Kind}
 use Rattle.servers.specs.Entries.{entry_stamp}
 use Rattle.servers.specs.declared.entry.Entry.{Entry}
 use Rattle.servers.specs.declared.entry.Entry.TheVariants.{Update}
-use Rattle.servers.specs.Laws.{IsIn}
 use Rattle.servers.specs.Outboxes.{take_entry}
 use Rattle.servers.specs.declared.version.Version.{Version}
+use Rattle.servers.proofs.Elements.{InList}
 use Rattle.group.specs.Model.Pasts.{Pasts}
 use Rattle.group.proofs.Model.Rows.{entry_rises, stamps_at}
 use Rattle.group.proofs.Model.Lists.{in_left, in_end, in_push, set2, set2_cases}
@@ -72,42 +72,42 @@ module _ {k : Kind} {L : Shape} {P : Pasts} {T : Tables} {G : Ghost} (h : Core k
           (λ c b a. absurd (other a b c))
           (λ _. h.queues.chain j s m lj ls ne)))
 
-      pending' : (v : Version) (j s m : ℕ) → j < L.sites → s < L.sites → (s ≡ j → ⊥) → IsIn (Update v) (waits' j m s) → IsIn v G.log × (v.source ≡ j) × (part L v.key ≡ m)
-      pending' v j s m lj ls ne = handed_cases T.waits from to n j m s (λ q. IsIn (Update v) q → IsIn v G.log × (v.source ≡ j) × (part L v.key ≡ m))
+      pending' : (v : Version) (j s m : ℕ) → j < L.sites → s < L.sites → (s ≡ j → ⊥) → InList (Update v) (waits' j m s) → InList v G.log × (v.source ≡ j) × (part L v.key ≡ m)
+      pending' v j s m lj ls ne = handed_cases T.waits from to n j m s (λ q. InList (Update v) q → InList v G.log × (v.source ≡ j) × (part L v.key ≡ m))
           (λ a b c i. h.queues.pending v j s m lj ls ne
-          (moved (λ x y z. IsIn (Update v) (T.waits x y z)) (sym a) (sym b) (sym c) (subst (IsIn (Update v)) (sym waiting) (inr (subst (IsIn (Update v)) left i)))))
+          (moved (λ x y z. InList (Update v) (T.waits x y z)) (sym a) (sym b) (sym c) (subst (InList (Update v)) (sym waiting) (inr (subst (InList (Update v)) left i)))))
           (λ _ i. h.queues.pending v j s m lj ls ne i)
 
-      reach' : (v : Version) (s : ℕ) → v.source < L.sites → Had L T.received s v ⊎ IsIn (Update v) (T.waits v.source (part L v.key) s) → Had L received' s v ⊎ IsIn (Update v) (waits' v.source (part L v.key) s)
+      reach' : (v : Version) (s : ℕ) → v.source < L.sites → Had L T.received s v ⊎ InList (Update v) (T.waits v.source (part L v.key) s) → Had L received' s v ⊎ InList (Update v) (waits' v.source (part L v.key) s)
       reach' v s src (inl had) = inl (had_rises L s v up had)
-      reach' v s src (inr i) = handed_cases T.waits from to n v.source (part L v.key) s (λ q. Had L received' s v ⊎ IsIn (Update v) q)
-          (λ a b c. go a b c (subst (IsIn (Update v)) waiting (moved (λ x y z. IsIn (Update v) (T.waits x y z)) a b c i)))
+      reach' v s src (inr i) = handed_cases T.waits from to n v.source (part L v.key) s (λ q. Had L received' s v ⊎ InList (Update v) q)
+          (λ a b c. go a b c (subst (InList (Update v)) waiting (moved (λ x y z. InList (Update v) (T.waits x y z)) a b c i)))
           (λ _. inr i)
         where
-          go : v.source ≡ from → part L v.key ≡ n → s ≡ to → IsIn (Update v) (e ∷ rest) → Had L received' s v ⊎ IsIn (Update v) (drop 1 (T.waits from n to))
+          go : v.source ≡ from → part L v.key ≡ n → s ≡ to → InList (Update v) (e ∷ rest) → Had L received' s v ⊎ InList (Update v) (drop 1 (T.waits from n to))
           go a b c (inl same) = inl (receiving_cases T.received to n from (entry_stamp e) s (part L v.key) v.source (four from lf) (four v.source src) (λ x. v.stamp ≤ x)
               (λ _ _ _. let t : v.stamp ≡ entry_stamp e = ap entry_stamp same in omega arith) (λ no'. absurd (no' c b a)))
-          go a b c (inr j) = inr (subst (IsIn (Update v)) (sym left) j)
+          go a b c (inr j) = inr (subst (InList (Update v)) (sym left) j)
 
   -- The held versions afterwards: the old ones, and the entry's version if it is an update.
   take_holds : (held' : ℕ → ℕ → List Version) →
-      ((v : Version) (s m : ℕ) → IsIn v (T.held s m) → IsIn v (held' s m)) →
-      ((v : Version) → Update v ≡ e → IsIn v (held' to n)) →
-      ((v : Version) (s m : ℕ) → IsIn v (held' s m) → IsIn v (T.held s m) ⊎ ((Update v ≡ e) × (s ≡ to) × (m ≡ n))) →
+      ((v : Version) (s m : ℕ) → InList v (T.held s m) → InList v (held' s m)) →
+      ((v : Version) → Update v ≡ e → InList v (held' to n)) →
+      ((v : Version) (s m : ℕ) → InList v (held' s m) → InList v (T.held s m) ⊎ ((Update v ≡ e) × (s ≡ to) × (m ≡ n))) →
       HeldInv k L received' held' T.safe G.log
   take_holds held' grow fresh cover = record { had = λ v s m i. had' v s m (cover v s m i); kept = kept' }
     where
-      had' : (v : Version) (s m : ℕ) → IsIn v (T.held s m) ⊎ ((Update v ≡ e) × (s ≡ to) × (m ≡ n)) → IsIn v G.log × (part L v.key ≡ m) × Had L received' s v
+      had' : (v : Version) (s m : ℕ) → InList v (T.held s m) ⊎ ((Update v ≡ e) × (s ≡ to) × (m ≡ n)) → InList v G.log × (part L v.key ≡ m) × Had L received' s v
       had' v s m (inl i) = let o = h.holds.had v s m i in (o.0, o.1, had_rises L s v up o.2)
       had' v s m (inr (same, a, b)) =
-          let o = h.queues.pending v from to n lf lt (λ d. apart (sym d)) (subst (IsIn (Update v)) (sym waiting) (inl same)) in (
+          let o = h.queues.pending v from to n lf lt (λ d. apart (sym d)) (subst (InList (Update v)) (sym waiting) (inl same)) in (
             o.0,
             o.2 ∙ sym b,
             receiving_cases T.received to n from (entry_stamp e) s (part L v.key) v.source (four from lf) (subst (λ (x : ℕ). x < 4) (sym o.1) (four from lf)) (λ x. v.stamp ≤ x)
                 (λ _ _ _. let t : v.stamp ≡ entry_stamp e = ap entry_stamp same in omega arith) (λ no'. absurd (no' a o.2 o.1)),
           )
 
-      kept' : (v : Version) (s : ℕ) → s < L.sites → IsIn v G.log → Had L received' s v → StandsIn k (held' s (part L v.key)) (T.safe s) v
+      kept' : (v : Version) (s : ℕ) → s < L.sites → InList v G.log → Had L received' s v → StandsIn k (held' s (part L v.key)) (T.safe s) v
       kept' v s l i = receiving_cases T.received to n from (entry_stamp e) s (part L v.key) v.source (four from lf) (four v.source (h.logs.source v i)) (λ x. v.stamp ≤ x → StandsIn k (held' s (part L v.key)) (T.safe s) v)
           (λ a b c le. hit a b c le (h.queues.reach v s i l (λ d. apart (sym (sym a ∙ (d ∙ c))))))
           (λ _ had. old had)
@@ -115,14 +115,14 @@ module _ {k : Kind} {L : Shape} {P : Pasts} {T : Tables} {G : Ghost} (h : Core k
           old : Had L T.received s v → StandsIn k (held' s (part L v.key)) (T.safe s) v
           old had = stands_grow _ _ _ v (λ w j. grow w s (part L v.key) j) (h.holds.kept v s l i had)
 
-          next : s ≡ to → part L v.key ≡ n → v.stamp ≤ entry_stamp e → IsIn (Update v) (e ∷ rest) → StandsIn k (held' s (part L v.key)) (T.safe s) v
-          next a b le (inl same) = record { other = v; there = subst (λ (x : ℕ). IsIn v (held' s x)) (sym b) (subst (λ (x : ℕ). IsIn v (held' x n)) (sym a) (fresh v same)); same_key = refl; how = inl refl }
+          next : s ≡ to → part L v.key ≡ n → v.stamp ≤ entry_stamp e → InList (Update v) (e ∷ rest) → StandsIn k (held' s (part L v.key)) (T.safe s) v
+          next a b le (inl same) = record { other = v; there = subst (λ (x : ℕ). InList v (held' s x)) (sym b) (subst (λ (x : ℕ). InList v (held' x n)) (sym a) (fresh v same)); same_key = refl; how = inl refl }
           next a b le (inr j) = absurd (let c : entry_stamp e < v.stamp = chain_above (entry_stamp e) (last T.received from n) rest (Update v) next_chain.1 j in omega arith)
 
           hit : s ≡ to → part L v.key ≡ n → v.source ≡ from → v.stamp ≤ entry_stamp e →
-              Had L T.received s v ⊎ IsIn (Update v) (T.waits v.source (part L v.key) s) → StandsIn k (held' s (part L v.key)) (T.safe s) v
+              Had L T.received s v ⊎ InList (Update v) (T.waits v.source (part L v.key) s) → StandsIn k (held' s (part L v.key)) (T.safe s) v
           hit a b c le (inl had) = old had
-          hit a b c le (inr j) = next a b le (subst (IsIn (Update v)) waiting (moved (λ x y z. IsIn (Update v) (T.waits x y z)) c b a j))
+          hit a b c le (inr j) = next a b le (subst (InList (Update v)) waiting (moved (λ x y z. InList (Update v) (T.waits x y z)) c b a j))
 
   -- an entry that waits has a stamp: its source's last one is at least as high
   small : entry_stamp e < 2 ^ 63
@@ -159,16 +159,16 @@ module _ {k : Kind} {L : Shape} {P : Pasts} {T : Tables} {G : Ghost} (h : Core k
       held' : ℕ → ℕ → List Version
       held' = set2 T.held to n (T.held to n ++ (v ∷ []))
 
-      grow : (w : Version) (s m : ℕ) → IsIn w (T.held s m) → IsIn w (held' s m)
-      grow w s m j = set2_cases T.held to n (T.held to n ++ (v ∷ [])) s m (IsIn w) (λ a b. in_left w (T.held to n) (v ∷ []) (rw (a, b) at j)) (λ _. j)
+      grow : (w : Version) (s m : ℕ) → InList w (T.held s m) → InList w (held' s m)
+      grow w s m j = set2_cases T.held to n (T.held to n ++ (v ∷ [])) s m (InList w) (λ a b. in_left w (T.held to n) (v ∷ []) (rw (a, b) at j)) (λ _. j)
 
       same : (w : Version) → Update w ≡ e → v ≡ w
       same w a = let b : Update w ≡ Update v = a ∙ is in cc
 
-      fresh : (w : Version) → Update w ≡ e → IsIn w (held' to n)
-      fresh w a = set2_cases T.held to n (T.held to n ++ (v ∷ [])) to n (IsIn w) (λ _ _. subst (λ (u : Version). IsIn u (T.held to n ++ (v ∷ []))) (same w a) (in_end (T.held to n) v)) (λ no'. absurd (no' refl refl))
+      fresh : (w : Version) → Update w ≡ e → InList w (held' to n)
+      fresh w a = set2_cases T.held to n (T.held to n ++ (v ∷ [])) to n (InList w) (λ _ _. subst (λ (u : Version). InList u (T.held to n ++ (v ∷ []))) (same w a) (in_end (T.held to n) v)) (λ no'. absurd (no' refl refl))
 
-      cover : (w : Version) (s m : ℕ) → IsIn w (held' s m) → IsIn w (T.held s m) ⊎ ((Update w ≡ e) × (s ≡ to) × (m ≡ n))
-      cover w s m = set2_cases T.held to n (T.held to n ++ (v ∷ [])) s m (λ vs. IsIn w vs → IsIn w (T.held s m) ⊎ ((Update w ≡ e) × (s ≡ to) × (m ≡ n)))
+      cover : (w : Version) (s m : ℕ) → InList w (held' s m) → InList w (T.held s m) ⊎ ((Update w ≡ e) × (s ≡ to) × (m ≡ n))
+      cover w s m = set2_cases T.held to n (T.held to n ++ (v ∷ [])) s m (λ vs. InList w vs → InList w (T.held s m) ⊎ ((Update w ≡ e) × (s ≡ to) × (m ≡ n)))
           (λ a b j. ⊎_elim (λ i. inl (rw (a, b) i)) (λ d. inr (ap Update d ∙ sym is, a, b)) (in_push w (T.held to n) v j))
           (λ _ j. inl j)

@@ -1,12 +1,11 @@
 -- A group keeps its promises, for every clock rule and every kind of mark that show their meaning.
-use Rattle.std.proofs.Common.{ℕ, ◌<◌, [], Some, None, sym, refl, subst}
+use Rattle.std.proofs.Common.{ℕ, ◌<◌, [], Contains, Some, None, sym, refl, subst}
 use Rattle.stamps.specs.Clocks.{Rule, IsLawfulRule}
 use Rattle.stamps.specs.Kinds.{Kind, IsLawfulKind}
 use Rattle.group.specs.Model.Groups.{new_group}
 use Rattle.group.specs.Model.GroupStore.{IsLayoutBounded, GroupKeepsPromises, group_store, versions_at}
 use Rattle.group.specs.Model.Promises.{Promises, ShowsAsLate}
 use Rattle.group.specs.Model.Stores.{Run, history}
-use Rattle.servers.specs.Laws.{IsIn}
 use Rattle.group.proofs.Model.Invariant.{Ghost}
 use Rattle.group.proofs.Model.Histories.{Inv}
 use Rattle.group.proofs.Model.Runs.{begins, no_ghost, ran}
@@ -32,11 +31,11 @@ promises {k} law rule clock sites r G v = record {
   get_answers = λ i key o. (_, get_answer law v i key (v.hist.opened_known i o) rule);
   get_none = λ i key e w held.
       let l = get_open law v rule i key None e in
-      none_seen law v i key l (get_found law v rule i key l None e) w (subst (λ (z : ℕ). IsIn w (versions_at r.state z)) (v.hist.sites_known i l) held);
+      none_seen law v i key l (get_found law v rule i key l None e) w (subst (λ (z : ℕ). Contains (versions_at r.state z) w) (v.hist.sites_known i l) held);
   get_some = λ i key u e.
       let l = get_open law v rule i key (Some u) e in
       let s = some_seen law v i key l u (get_found law v rule i key l (Some u) e) in
-      (s.0, subst (λ (z : ℕ). IsIn s.0 (versions_at r.state z)) (sym (v.hist.sites_known i l)) s.1, s.2, s.3);
+      (s.0, subst (λ (z : ℕ). Contains (versions_at r.state z) s.0) (sym (v.hist.sites_known i l)) s.1, s.2, s.3);
   bounded = bounded v;
 }
   where

@@ -2,15 +2,15 @@
 use Rattle.std.proofs.Common.{◌≡◌, ℕ, ◌<◌, sym, inl, inr}
 use Rattle.stamps.specs.Rows.{Covers}
 use Rattle.stamps.specs.Kinds.{Kind}
-use Rattle.servers.specs.Laws.{IsIn}
 use Rattle.servers.specs.Versions.{full_mark}
 use Rattle.servers.specs.declared.version.Version.{Version}
+use Rattle.servers.proofs.Elements.{InList}
 use Rattle.group.specs.Model.Events.{Put}
 use Rattle.group.specs.Model.Pasts.{Pasts, of_session, of_put, pasts_with_put}
 use Rattle.group.proofs.Model.Invariant.{Shape, part, Ghost, Tables, name_of, Had, Reached, Before, Core}
 
 -- Session i has put v, depends on it already, and its pasts before were reached by v's mark and by the server's stable mark.
-pub written_too : {k : Kind} {L : Shape} {P : Pasts} {T : Tables} {G : Ghost} (i : ℕ) (v : Version) → i < T.opened → IsIn v G.log → v.source ≡ (T.session i).site →
+pub written_too : {k : Kind} {L : Shape} {P : Pasts} {T : Tables} {G : Ghost} (i : ℕ) (v : Version) → i < T.opened → InList v G.log → v.source ≡ (T.session i).site →
     Had L T.received (T.session i).site v → Covers (T.session i).depends (full_mark k v) →
     ((p : Put) → P (of_session i) p → Reached k L T.received G.log v.source v.mark (T.stable v.source (part L v.key)) p) →
     Core k L P T G → Core k L (pasts_with_put P i (name_of v)) T G

@@ -1,5 +1,5 @@
 -- A group as a store, and the theorem about it.
-use Rattle.std.specs.Prelude.{◌≡◌, ℕ, ◌^◌, ◌<◌, ◌≤◌, ◌≢◌, Bool, List, [], length, Some}
+use Rattle.std.specs.Prelude.{◌≡◌, ℕ, ◌^◌, ◌<◌, ◌≤◌, ◌≢◌, Bool, List, [], length, Contains, Some}
 use Rattle.std.specs.List.{flat_map}
 use Rattle.stamps.specs.Rows.{HasStamps}
 use Rattle.stamps.specs.Kinds.{Kind, IsMark}
@@ -7,7 +7,6 @@ use Rattle.servers.specs.declared.entry.Entry.{Entry}
 use Rattle.servers.specs.declared.entry.Entry.TheVariants.{Update, Heartbeat}
 use Rattle.servers.specs.Servers.{ServerState, sees}
 use Rattle.stamps.specs.Clocks.{Rule}
-use Rattle.servers.specs.Laws.{IsIn}
 use Rattle.servers.specs.declared.value.Value.{Value}
 use Rattle.servers.specs.declared.value.Value.TheVariants.{Gone, Price, Percent, Basis}
 use Rattle.servers.specs.declared.value.Basis.TheVariants.{Part, Sheet}
@@ -57,8 +56,8 @@ IsEntryBounded k sites (Heartbeat stamp) = stamp < 2 ^ 63
 pub record IsServerBounded (k : Kind) (sites site : ℕ) (s : ServerState) : Type 0 where
   pub few_versions : length s.held ≤ 32
   pub few_entries : (to : ℕ) → length (s.waiting to) ≤ 16
-  pub versions : (v : Version) → IsIn v s.held → IsVersionBounded k sites v
-  pub entries : (to : ℕ) → to < sites → to ≢ site → (e : Entry) → IsIn e (s.waiting to) → IsEntryBounded k sites e
+  pub versions : (v : Version) → Contains s.held v → IsVersionBounded k sites v
+  pub entries : (to : ℕ) → to < sites → to ≢ site → (e : Entry) → Contains (s.waiting to) e → IsEntryBounded k sites e
   pub reading : s.reading < 2 ^ 47
   pub received : HasStamps s.marks.received
   pub reported : IsMark k s.marks.reported

@@ -1,7 +1,8 @@
 -- The promises, for every store and every run of it.
-use Rattle.std.specs.Prelude.{◌≡◌, ℕ, ◌<◌, Bool, true, ◌⊎◌, List, [], ◌∷◌, Some, None, Ok, Option, Result, ◌≢◌}
+use Rattle.std.specs.Prelude.{◌≡◌, ℕ, ◌<◌, Bool, true, ◌⊎◌, ◌≢◌}
+use Rattle.std.specs.Prelude.{List, [], ◌∷◌, Contains, Some, None, Ok, Option, Result}
 use Rattle.stamps.specs.declared.refusal.Refusal.{Refusal}
-use Rattle.servers.specs.Laws.{IsIn, IsLatest}
+use Rattle.servers.specs.Laws.{IsLatest}
 use Rattle.servers.specs.Values.{value_from}
 use Rattle.servers.specs.declared.value.Value.{Value}
 use Rattle.servers.specs.declared.version.Version.{Version}
@@ -61,7 +62,7 @@ module _ (S : Store) where
         → IsSameAnswer (answer S now (read ticket key)) (answer S opened (read ticket key))
     -- of one snapshot's answers, not one is older than a put of its key in the past of any of them
     pub snapshot_whole : (ticket : Ticket) (key other : ℕ) (o : Option Shown) (v : Shown) (p : Put) →
-        IsIn (read_by ticket key o) (history S r) → IsIn (read_by ticket other (Some v)) (history S r) →
+        Contains (history S r) (read_by ticket key o) → Contains (history S r) (read_by ticket other (Some v)) →
         HasInPast (history S r) (of_put (put_shown other v)) p → p.key ≡ key → ShowsAsLate key (Ok o) p
     -- (c) with every outbox empty, any two sites hold the same latest version of each key, or neither holds one
     pub sites_agree : S.IsQuiet r.state → (site other key : ℕ) → site < S.sites → other < S.sites
@@ -81,10 +82,10 @@ module _ (S : Store) where
     pub get_answers : (session key : ℕ) → WasOpened session (history S r)
         → (o : Option Shown) × (answer S r (get session key) ≡ Ok o)
     pub get_none : (session key : ℕ) → answer S r (get session key) ≡ Ok None
-        → (v : Version) → IsIn v (S.holds r.state (site_of (history S r) session)) → v.key ≡ key
+        → (v : Version) → Contains (S.holds r.state (site_of (history S r) session)) v → v.key ≡ key
         → S.may_see r.state session v ≢ true
     pub get_some : (session key : ℕ) (v : Shown) → answer S r (get session key) ≡ Ok (Some v)
-        → (w : Version) × IsIn w (S.holds r.state (site_of (history S r) session)) × (w.key ≡ key)
+        → (w : Version) × Contains (S.holds r.state (site_of (history S r) session)) w × (w.key ≡ key)
         × (S.may_see r.state session w ≡ true)
     -- the capacities and ranges hold
     pub bounded : S.IsBounded r.state
