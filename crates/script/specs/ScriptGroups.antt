@@ -88,8 +88,3 @@ obey (some_group clock marks g) command =
 abbrev pub group_of : Choice → ScriptGroup
 group_of choice =
     some_group choice.clock choice.marks (model.new_group choice.layout.sites choice.layout.partitions)
-
--- the group of what was made, or the refusal
-abbrev pub group_or_refusal : {A : Type 0} → (A → ScriptGroup) → Result A Refusal → Result ScriptGroup Refusal
-group_or_refusal of (Ok x) = Ok (of x)
-group_or_refusal of (Err why) = Err why

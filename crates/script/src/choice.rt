@@ -1,6 +1,7 @@
 //! What a layout chooses: how large the group is, its clock rule and its kind of mark.
 ghost use Rattle.std.specs.Prelude.{◌≡◌};
-ghost use Rattle.script.specs.ScriptGroups.{clock_of, group_of, group_or_refusal, make_group, marks_of};
+ghost use Rattle.std.specs.Result.{result_map_both};
+ghost use Rattle.script.specs.ScriptGroups.{clock_of, group_of, make_group, marks_of};
 
 use crate::command::Command;
 use group::layout::{Draft, Layout};
@@ -62,7 +63,7 @@ impl TryFrom<char> for Marks {
 impl TryFrom<Command> for Choice {
     type Error = Refusal;
 
-    ghost try_from_gives = { λ command r. group_or_refusal group_of r ≡ make_group command };
+    ghost try_from_gives = { λ command r. result_map_both group_of (λ why. why) r ≡ make_group command };
 
     fn try_from(command: Command) -> Result<Choice, Refusal> {
         let Command::Layout {

@@ -39,7 +39,7 @@ impl<C: ClockRule, K: MarkKind> Obeys for Group<C, K> {
 
     ghost state = { group_view };
 
-    ghost obey_gives = { perform C.ClockRule.answer K.MarkKind.kind };
+    ghost obey_gives = { perform C.answer K.kind };
 
     fn obey(&mut self, command: Command) -> Result<Answer, Refusal> {
         perform(self, command)

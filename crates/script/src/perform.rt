@@ -15,7 +15,7 @@ pub(crate) fn perform<C: ClockRule, K: MarkKind>(
     group: &mut Group<C, K>,
     command: Command,
 ) -> Result<Answer, Refusal>
-    ensures { (result, view group.new) ≡ perform C.ClockRule.answer K.MarkKind.kind (view group.old) command }
+    ensures { (result, view group.new) ≡ perform C.answer K.kind (view group.old) command }
 {
     let answer = match command {
         Command::Layout { .. } => return Err(Refusal::LayoutMisplaced),
@@ -84,7 +84,7 @@ fn view_both<C: ClockRule, K: MarkKind>(
     second: u16,
 ) -> Answer
     ensures { (result, view group.new) ≡
-        view_both C.ClockRule.answer K.MarkKind.kind (view group.old) session partition first second }
+        view_both C.answer K.kind (view group.old) session partition first second }
 {
     let ticket = match group.open_snapshot(session, partition) {
         Ok(ticket) => ticket,

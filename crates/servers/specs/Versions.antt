@@ -1,5 +1,6 @@
 -- Versions: which is later, and their full marks.
-use Rattle.std.specs.Prelude.{ℕ, Bool, ◌&&◌, ◌||◌, Ok, Err, Result, ◌==◌, nat_lt}
+use Rattle.std.specs.Prelude.{ℕ, Bool, ◌&&◌, ◌||◌, Result, ◌==◌, nat_lt}
+use Rattle.std.specs.Result.{result_map_both}
 use Rattle.stamps.specs.declared.refusal.Refusal.{Refusal}
 use Rattle.stamps.specs.Rows.{PerSite, join}
 use Rattle.stamps.specs.Kinds.{Kind}
@@ -11,8 +12,7 @@ is_later v w = nat_lt w.stamp v.stamp || (w.stamp == v.stamp && nat_lt w.source 
 
 -- the stamp of a version that a put was answered
 abbrev pub stamp_answered : Result Version Refusal → Result ℕ Refusal
-stamp_answered (Ok v) = Ok v.stamp
-stamp_answered (Err why) = Err why
+stamp_answered = result_map_both (λ v. v.stamp) (λ why. why)
 
 -- the full mark: the version and what its writer depended on
 abbrev pub full_mark : Kind → Version → PerSite

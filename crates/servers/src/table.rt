@@ -46,8 +46,8 @@ impl VersionTable {
     // Drops every version that has a later one of its key that the safe mark covers, and answers how many.
     pub(crate) fn tidy<K: MarkKind>(&mut self, safe: K::Mark) -> usize
         ensures step { (result, versions_of self.new)
-            ≡ table_tidy K.MarkKind.kind (K.MarkKind.meaning safe) (versions_of self.old) }
-        ensures law { IsTidied K.MarkKind.kind (K.MarkKind.meaning safe)
+            ≡ table_tidy K.kind (K.meaning safe) (versions_of self.old) }
+        ensures law { IsTidied K.kind (K.meaning safe)
             (versions_of self.old) (versions_of self.new) result }
     {
         let mut before = ArrayVec::new();
@@ -70,9 +70,9 @@ impl VersionTable {
     // Where the latest version of a key stands that passes a test.
     pub(crate) fn latest<T: VersionTest>(&self, key: u16, test: &T) -> Option<usize>
         ensures value { version_at (versions_of self.now) result
-            ≡ latest_of (T.VersionTest.passes test.now) key (versions_of self.now) }
+            ≡ latest_of (T.passes test.now) key (versions_of self.now) }
         ensures within { IfSome result (λ index. index < length (versions_of self.now)) }
-        ensures law { IsLatest (T.VersionTest.passes test.now) key
+        ensures law { IsLatest (T.passes test.now) key
             (versions_of self.now) (version_at (versions_of self.now) result) }
     {
         let versions = self.versions.as_slice();

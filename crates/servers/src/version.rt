@@ -41,7 +41,7 @@ impl Version {
 
     /// The mark of the version and of what its writer depended on: whoever has seen it depends on these.
     pub fn full_mark<K: MarkKind>(&self) -> K::Mark
-        ensures { K.MarkKind.meaning result ≡ full_mark K.MarkKind.kind self.now }
+        ensures { K.meaning result ≡ full_mark K.kind self.now }
     {
         K::join(K::floor(self.mark), K::lift(self.source, self.stamp()))
     }

@@ -24,7 +24,7 @@ pub(crate) struct Visible<K: MarkKind> {
 }
 
 impl<K: MarkKind> VersionTest for Visible<K> {
-    ghost passes = { λ s. is_visible K.MarkKind.kind s.site (K.MarkKind.meaning s.stable) };
+    ghost passes = { λ s. is_visible K.kind s.site (K.meaning s.stable) };
 
     fn passes(&self, version: &Version) -> bool {
         version.source == self.site || K::covers(self.stable, version.full_mark::<K>())
@@ -38,7 +38,7 @@ pub(crate) struct Covered<K: MarkKind> {
 }
 
 impl<K: MarkKind> VersionTest for Covered<K> {
-    ghost passes = { λ s. is_covered K.MarkKind.kind (K.MarkKind.meaning s.cut) };
+    ghost passes = { λ s. is_covered K.kind (K.meaning s.cut) };
 
     fn passes(&self, version: &Version) -> bool {
         K::covers(self.cut, version.full_mark::<K>())

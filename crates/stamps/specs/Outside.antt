@@ -28,8 +28,3 @@ floor_from k entries = and_then (checked_row entries) (λ row. Ok (k.floor row))
 
 abbrev pub lift_from : Kind → ℕ → ℕ → Result PerSite Refusal
 lift_from k site stamp = and_then (checked_stamp stamp) (λ s. and_then (checked_site site) (λ i. Ok (k.lift i s)))
-
--- the row of the mark that was answered, or the refusal
-abbrev pub row_or_refusal : {Mark : Type 0} → (Mark → PerSite) → Result Mark Refusal → Result PerSite Refusal
-row_or_refusal meaning (Ok mark) = Ok (meaning mark)
-row_or_refusal meaning (Err why) = Err why

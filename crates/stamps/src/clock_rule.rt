@@ -28,7 +28,7 @@ pub fn next_stamp<C: ClockRule>(
     reading: Reading,
     dependency: Stamp,
 ) -> Result<IssuedStamp, Refusal>
-    ensures value { result ≡ C.ClockRule.answer last reading dependency }
+    ensures value { result ≡ C.answer last reading dependency }
     ensures allowed { IsAllowed last dependency result }
 {
     Ok(IssuedStamp::of(C::stamp(last, reading, dependency)?))

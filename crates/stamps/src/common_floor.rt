@@ -12,24 +12,24 @@ use crate::stamp::Stamp;
 ///
 /// Each row is taken as a mark by the kind's floor.
 pub fn common_floor<K: MarkKind>(rows: &[Row]) -> K::Mark
-    ensures value { K.MarkKind.meaning result ≡ common_floor K.MarkKind.kind rows.now }
-    ensures greatest { IsGreatestCommon K.MarkKind.kind rows.now (K.MarkKind.meaning result) }
+    ensures value { K.meaning result ≡ common_floor K.kind rows.now }
+    ensures greatest { IsGreatestCommon K.kind rows.now (K.meaning result) }
 {
     lowered::<K>(top_mark::<K>(), rows)
 }
 
 // The greatest mark: the top stamp at each entry.
 fn top_mark<K: MarkKind>() -> K::Mark
-    ensures { K.MarkKind.meaning result ≡ same top_stamp }
+    ensures { K.meaning result ≡ same top_stamp }
 {
     K::floor(Row::same(Stamp::top()))
 }
 
 // The greatest mark, lowered by each row of the run.
 fn lowered<K: MarkKind>(top: K::Mark, rows: &[Row]) -> K::Mark
-    requires { K.MarkKind.meaning top ≡ same top_stamp }
-    ensures value { K.MarkKind.meaning result ≡ common_floor K.MarkKind.kind rows.now }
-    ensures greatest { IsGreatestCommon K.MarkKind.kind rows.now (K.MarkKind.meaning result) }
+    requires { K.meaning top ≡ same top_stamp }
+    ensures value { K.meaning result ≡ common_floor K.kind rows.now }
+    ensures greatest { IsGreatestCommon K.kind rows.now (K.meaning result) }
 {
     let mut mark = top;
     for row in rows {

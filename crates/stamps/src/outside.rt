@@ -1,6 +1,7 @@
 //! Clock rules and kinds of mark, asked with plain numbers: these are checked first, stamps before readings and sites.
 ghost use Rattle.std.specs.Prelude.{◌≡◌};
-ghost use Rattle.stamps.specs.Outside.{stamp_from, signed_number, floor_from, lift_from, row_or_refusal};
+ghost use Rattle.std.specs.Result.{result_map_both};
+ghost use Rattle.stamps.specs.Outside.{stamp_from, signed_number, floor_from, lift_from};
 
 use crate::clock_rule::ClockRule;
 use crate::mark_kind::MarkKind;
@@ -12,7 +13,7 @@ use crate::stamp::Stamp;
 
 /// What a rule answers to three numbers. `Unlawful` if one of them is no stamp or no reading.
 pub fn stamp_from<C: ClockRule>(last: u64, reading: u64, dependency: u64) -> Result<Stamp, Refusal>
-    ensures { result ≡ stamp_from C.ClockRule.answer last reading dependency }
+    ensures { result ≡ stamp_from C.answer last reading dependency }
 {
     let last = Stamp::try_from(last)?;
     let dependency = Stamp::try_from(dependency)?;
@@ -32,21 +33,21 @@ fn signed(answer: Result<Stamp, Refusal>) -> i64
 
 /// The same as one signed number: the stamp, or minus the refusal's number.
 pub fn signed_stamp<C: ClockRule>(last: u64, reading: u64, dependency: u64) -> i64
-    ensures { result ≡ signed_number (stamp_from C.ClockRule.answer last reading dependency) }
+    ensures { result ≡ signed_number (stamp_from C.answer last reading dependency) }
 {
     signed(stamp_from::<C>(last, reading, dependency))
 }
 
 /// The floor of four numbers as a row. `Unlawful` if one of them is no stamp.
 pub fn floor_from<K: MarkKind>(entries: [u64; 4]) -> Result<K::Mark, Refusal>
-    ensures { row_or_refusal K.MarkKind.meaning result ≡ floor_from K.MarkKind.kind entries }
+    ensures { result_map_both K.meaning (λ why. why) result ≡ floor_from K.kind entries }
 {
     Ok(K::floor(Row::try_from(entries)?))
 }
 
 /// The lift of a stamp at a site. `Unlawful` if it is no stamp; `NotInLayout` if it is no site.
 pub fn lift_from<K: MarkKind>(site: u8, stamp: u64) -> Result<K::Mark, Refusal>
-    ensures { row_or_refusal K.MarkKind.meaning result ≡ lift_from K.MarkKind.kind site stamp }
+    ensures { result_map_both K.meaning (λ why. why) result ≡ lift_from K.kind site stamp }
 {
     let stamp = Stamp::try_from(stamp)?;
     let site = Site::try_from(site)?;

@@ -106,8 +106,8 @@ pub reached_made : (rule : Rule) (k : Kind) (g : GroupState) → g ≡ new_group
 reached_made rule k g is layout = record { layout = layout; calls = []; leads = sym is }
 
 -- and each call leads from a reached one to a reached one
-pub reached_asked : {rule : Rule} {k : Kind} {g : GroupState} (call : Call) → IsReached rule k g → IsReached rule k (step rule k g call).1
-reached_asked {rule} {k} {g} call r =
+pub reached_after : {rule : Rule} {k : Kind} {g : GroupState} (call : Call) → IsReached rule k g → IsReached rule k (step rule k g call).1
+reached_after {rule} {k} {g} call r =
     let h = (step rule k g call).1 in
     let same = step_same rule k g call in
     let Leads : ℕ → ℕ → Type 0 = λ sites partitions. (run_of rule k sites partitions (r.calls ++ call ∷ [])).state ≡ h in
@@ -124,15 +124,14 @@ reached_asked {rule} {k} {g} call r =
 
 -- so is the group that a call has left, whatever it has answered
 pub reached_next : {rule : Rule} {k : Kind} {g h : GroupState} (call : Call) {a : Answer call} → (a, h) ≡ step rule k g call → IsReached rule k g → IsReached rule k h
-reached_next {rule} {k} call is r = subst (IsReached rule k) (sym (ap (λ t. t.1) is)) (reached_asked call r)
+reached_next {rule} {k} call is r = subst (IsReached rule k) (sym (ap (λ t. t.1) is)) (reached_after call r)
 
 -- a reached group keeps the promises
 pub reached_keeps : {rule : Rule} {k : Kind} {g : GroupState} → IsLawfulKind k → IsLawfulRule rule → IsReached rule k g → StillKeeps rule k g
 reached_keeps {rule} {k} {g} law clock r =
     let S = group_store rule k g.sites in
     record {
-      calls = r.calls;
-      leads = r.leads;
+      reached = r;
       promises = λ more. subst (Promises S) (then_append S (record { events = []; state = new_group g.sites g.partitions }) r.calls more) (keeps_promises law rule clock g.sites g.partitions r.layout (r.calls ++ more));
     }
 

@@ -21,8 +21,7 @@ pub record IsReached (rule : Rule) (kind : Kind) (g : GroupState) : Type 0 where
 
 -- Calls lead to this group, and the promises hold after them and after any calls that follow.
 pub record StillKeeps (rule : Rule) (kind : Kind) (g : GroupState) : Type 0 where
-  pub calls : List Call
-  pub leads : (run_of rule kind g.sites g.partitions calls).state ≡ g
+  pub reached : IsReached rule kind g
   pub promises : (more : List Call) →
       let S = group_store rule kind g.sites in
-      Promises S (then_all S (run_of rule kind g.sites g.partitions calls) more)
+      Promises S (then_all S (run_of rule kind g.sites g.partitions reached.calls) more)

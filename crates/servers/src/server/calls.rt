@@ -43,7 +43,7 @@ impl<C: ClockRule, K: MarkKind> Server<C, K> {
     ///
     /// `OutboxFull` while some other site has 16 entries still to take, and then as the clock rule refuses.
     pub fn heartbeat(&mut self) -> Result<Stamp, Refusal>
-        ensures step { (result, view self.new) ≡ server_heartbeat C.ClockRule.answer (view self.old) }
+        ensures step { (result, view self.new) ≡ server_heartbeat C.answer (view self.old) }
         ensures rises { IsAbove (last_of (view self.old)) result }
         ensures keeps { OnErr result (view self.new ≡ view self.old) }
     {
@@ -71,8 +71,8 @@ impl<C: ClockRule, K: MarkKind> Server<C, K> {
         knows: K::Mark,
     ) -> Result<Version, Refusal>
         ensures step { (result, view self.new)
-            ≡ server_put C.ClockRule.answer K.MarkKind.kind (view self.old) key value
-            (K.MarkKind.meaning depends) (K.MarkKind.meaning knows) }
+            ≡ server_put C.answer K.kind (view self.old) key value
+            (K.meaning depends) (K.meaning knows) }
         ensures rises { IsAbove (last_of (view self.old)) (stamp_answered result) }
         ensures keeps { OnErr result (view self.new ≡ view self.old) }
     {
@@ -101,7 +101,7 @@ impl<C: ClockRule, K: MarkKind> Server<C, K> {
 
     // The stamp that the rule gives after the last one and a dependency.
     fn next_stamp(&self, dependency: Stamp) -> Result<IssuedStamp, Refusal>
-        ensures value { result ≡ C.ClockRule.answer (last_of (view self.now)) self.now.reading dependency }
+        ensures value { result ≡ C.answer (last_of (view self.now)) self.now.reading dependency }
         ensures rises { IsAbove (last_of (view self.now)) result }
     {
         next_stamp::<C>(

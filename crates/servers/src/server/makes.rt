@@ -21,7 +21,7 @@ impl<C: ClockRule, K: MarkKind> Server<C, K> {
     pub fn new(peers: Peers) -> Self
         ensures state { view result ≡ new_server peers.own peers.sites }
         ensures queues { StaysQueue peers.own peers.sites }
-        ensures rising { StampsRise C.ClockRule.answer K.MarkKind.kind peers.own peers.sites }
+        ensures rising { StampsRise C.answer K.kind peers.own peers.sites }
     {
         let zero = Row::same(Stamp::zero());
         Server {

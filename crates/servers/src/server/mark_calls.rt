@@ -24,14 +24,14 @@ impl<C: ClockRule, K: MarkKind> Server<C, K> {
 
     /// Reports the greatest mark that the received row covers.
     pub fn report(&mut self)
-        ensures { view self.new ≡ server_report K.MarkKind.kind (view self.old) }
+        ensures { view self.new ≡ server_report K.kind (view self.old) }
     {
         self.reported = K::row(K::floor(self.received));
     }
 
     /// Joins a mark into the stable mark.
     pub fn raise(&mut self, mark: K::Mark)
-        ensures { view self.new ≡ server_raise K.MarkKind.kind (view self.old) (K.MarkKind.meaning mark) }
+        ensures { view self.new ≡ server_raise K.kind (view self.old) (K.meaning mark) }
     {
         self.stable = K::row(K::join(K::floor(self.stable), mark));
     }

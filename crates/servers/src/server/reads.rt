@@ -29,9 +29,9 @@ impl<C: ClockRule, K: MarkKind> Server<C, K> {
     /// Where among the versions held the latest one of a key stands that is local or that the stable mark covers. Were
     /// it held twice, which happens in no group, either place may be answered.
     pub fn latest_visible(&self, key: u16) -> Option<usize>
-        ensures value { version_at (view self.now).held result ≡ latest_visible K.MarkKind.kind (view self.now) key }
+        ensures value { version_at (view self.now).held result ≡ latest_visible K.kind (view self.now) key }
         ensures within { IfSome result (λ index. index < length (view self.now).held) }
-        ensures law { IsLatest (sees K.MarkKind.kind (view self.now)) key
+        ensures law { IsLatest (sees K.kind (view self.now)) key
             (view self.now).held (version_at (view self.now).held result) }
     {
         let test = Visible::<K> {
@@ -45,9 +45,9 @@ impl<C: ClockRule, K: MarkKind> Server<C, K> {
     /// happens in no group, either place may be answered.
     pub fn latest_covered(&self, key: u16, cut: K::Mark) -> Option<usize>
         ensures value { version_at (view self.now).held result
-            ≡ latest_covered K.MarkKind.kind (view self.now) key (K.MarkKind.meaning cut) }
+            ≡ latest_covered K.kind (view self.now) key (K.meaning cut) }
         ensures within { IfSome result (λ index. index < length (view self.now).held) }
-        ensures law { IsLatest (is_covered K.MarkKind.kind (K.MarkKind.meaning cut)) key
+        ensures law { IsLatest (is_covered K.kind (K.meaning cut)) key
             (view self.now).held (version_at (view self.now).held result) }
     {
         let test = Covered::<K> { cut };
@@ -56,8 +56,8 @@ impl<C: ClockRule, K: MarkKind> Server<C, K> {
 
     /// Drops the versions that are not needed any more under the safe mark, and answers how many.
     pub fn tidy(&mut self, safe: K::Mark) -> usize
-        ensures step { (result, view self.new) ≡ server_tidy K.MarkKind.kind (view self.old) (K.MarkKind.meaning safe) }
-        ensures law { IsTidied K.MarkKind.kind (K.MarkKind.meaning safe)
+        ensures step { (result, view self.new) ≡ server_tidy K.kind (view self.old) (K.meaning safe) }
+        ensures law { IsTidied K.kind (K.meaning safe)
             (view self.old).held (view self.new).held result }
     {
         self.table.tidy::<K>(safe)

@@ -16,14 +16,14 @@ impl<'a, K: MarkKind> Needed<'a, K> {
     // Whether a version of the table replaces the item.
     pub(crate) fn is_outdated(&self, item: &Version) -> bool
         ensures { result
-            ≡ is_outdated K.MarkKind.kind (K.MarkKind.meaning self.now.safe) self.now.versions.now item.now }
+            ≡ is_outdated K.kind (K.meaning self.now.safe) self.now.versions.now item.now }
     {
         self.versions.iter().any(|other| self.replaces(other, item))
     }
 
     // Whether `other` is a later version of the item's key that the safe mark covers.
     fn replaces(&self, other: &Version, item: &Version) -> bool
-        ensures { result ≡ is_outdated_by K.MarkKind.kind (K.MarkKind.meaning self.now.safe) item.now other.now }
+        ensures { result ≡ is_outdated_by K.kind (K.meaning self.now.safe) item.now other.now }
     {
         other.key == item.key
             && other.is_later(item)
