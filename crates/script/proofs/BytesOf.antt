@@ -1,31 +1,40 @@
 -- Commands to bytes, and back.
-use Rattle.std.proofs.Common.{◌≡◌, ℕ, zero, suc, ◌+◌, ◌≤◌, cond, eqb, leb, List, [], ◌∷◌, ◌++◌, length, drop, Some, None, Ok, Option, Result, rules, refl, sym, ap, ◌∙◌, arith, add-one, add-zero, zero-add, drop-cons, length-append}
+use Rattle.std.proofs.Common.{◌≡◌, ℕ, zero, suc, ◌+◌, ◌≤◌, cond, eqb, leb, List, [], ◌∷◌, ◌++◌, length, drop, Some}
+use Rattle.std.proofs.Common.{None, Ok, Option, Result, rules, refl, sym, ap, ◌∙◌, arith, add-one, add-zero, zero-add}
+use Rattle.std.proofs.Common.{drop-cons, length-append}
 use Rattle.std.proofs.lemmas.Bool.{cond-true, cond_both, le-leb, eqb-true}
 use Rattle.std.proofs.Math.Seq.{drop-append_seam}
 use Rattle.std.specs.Prelude.{All}
 use Rattle.std.specs.Int.{bytes_high_first}
 use Rattle.stamps.specs.declared.refusal.Refusal.{Refusal}
 use Rattle.script.specs.declared.command.Command.{Command}
-use Rattle.script.specs.declared.command.Command.TheVariants.{Layout, OpenSession, Tell, Put, Get, Heartbeat, Deliver, Report, Stabilise, Tidy, Lead, View}
-use Rattle.script.specs.Commands.{Form, u8_at, deliver_form, form_of, read_form, get_form, layout_form, open_session_form, put_form, read_command, read_operands, server_form, tell_form, view_form}
+use Rattle.script.specs.declared.command.Command.TheVariants.{Layout, OpenSession, Tell, Put, Get, Heartbeat, Deliver}
+use Rattle.script.specs.declared.command.Command.TheVariants.{Report, Stabilise, Tidy, Lead, View}
+use Rattle.script.specs.Commands.{Form, u8_at, deliver_form, form_of, read_form, get_form, layout_form}
+use Rattle.script.specs.Commands.{open_session_form, put_form, read_command, read_operands, server_form, tell_form}
+use Rattle.script.specs.Commands.{view_form}
 use Rattle.script.specs.Writing.{IsByte, OperandsFit, bytes_of}
 use Rattle.script.specs.ReaderLaws.{AnswersFirstCommand}
 use Rattle.script.proofs.Forms.{read_form_ok}
-use Rattle.script.proofs.Numbers.{AreBytes, BytesAt, all_bytes, four_read, four_written, items, items_bytes, six_read, six_written, two_read, two_written}
+use Rattle.script.proofs.Numbers.{AreBytes, BytesAt, all_bytes, four_read, four_written, items, items_bytes, six_read}
+use Rattle.script.proofs.Numbers.{six_written, two_read, two_written}
 
 -- ---- what was written is read
 
 -- the operands stand before the rest
-read_form_front : (f : Form) (front rest : List ℕ) → f.width ≡ length front → read_form f (front ++ rest) ≡ Ok (f.make (front ++ rest), rest)
+read_form_front : (f : Form) (front rest : List ℕ) → f.width ≡ length front
+    → read_form f (front ++ rest) ≡ Ok (f.make (front ++ rest), rest)
 read_form_front f front rest e =
     cond-true (leb f.width (length (front ++ rest))) _ _ (le-leb _ _ (omega (arith, length-append front rest)))
     ∙ ap (λ r. Ok (f.make (front ++ rest), r)) (rw e (drop-append_seam front rest))
 
 pub bytes_of-read : (c : Command) (rest : List ℕ) → OperandsFit c → read_command (bytes_of c ++ rest) ≡ Ok (c, rest)
-bytes_of-read (Layout sites partitions clock marks) rest h = read_form_front layout_form (sites ∷ partitions ∷ clock ∷ marks ∷ []) rest refl
+bytes_of-read (Layout sites partitions clock marks) rest h =
+    read_form_front layout_form (sites ∷ partitions ∷ clock ∷ marks ∷ []) rest refl
 bytes_of-read (OpenSession site) rest h = read_form_front open_session_form (site ∷ []) rest refl
 bytes_of-read (Tell site partition time) rest h =
-    read_form_front tell_form (site ∷ partition ∷ bytes_high_first 6 time) rest refl ∙ ap (λ t. Ok (Tell site partition t, rest)) (six_read time h.2)
+    read_form_front tell_form (site ∷ partition ∷ bytes_high_first 6 time) rest refl
+    ∙ ap (λ t. Ok (Tell site partition t, rest)) (six_read time h.2)
 bytes_of-read (Put session key kind amount) rest h =
     read_form_front put_form (session ∷ (bytes_high_first 2 key ++ kind ∷ bytes_high_first 4 amount)) rest refl
     ∙ (let k = two_read key h.1 in let a = four_read amount h.3 in cc)
@@ -48,11 +57,13 @@ items_rest : (bytes : List ℕ) (i n : ℕ) → i + n ≤ length bytes → drop 
 items_rest bytes i zero h = rw add-zero refl
 items_rest bytes i (suc n) h =
     let next : i + suc n ≡ i + 1 + n = omega arith in
-    drop-cons bytes i 0 (omega arith) ∙ rw (← add-one i, next) (ap (λ t. u8_at bytes i ∷ t) (items_rest bytes (i + 1) n (omega arith)))
+    drop-cons bytes i 0 (omega arith) ∙ rw (← add-one i, next)
+    (ap (λ t. u8_at bytes i ∷ t) (items_rest bytes (i + 1) n (omega arith)))
 
 -- the command of a form is written as the letter and the operands
 abbrev WritesBack : ℕ → Form → Type 0
-WritesBack letter f = (bytes : List ℕ) → BytesAt bytes → OperandsFit (f.make bytes) × (bytes_of (f.make bytes) ≡ letter ∷ items bytes 0 f.width)
+WritesBack letter f = (bytes : List ℕ) → BytesAt bytes
+    → OperandsFit (f.make bytes) × (bytes_of (f.make bytes) ≡ letter ∷ items bytes 0 f.width)
 
 layout_written : WritesBack 76 layout_form
 layout_written bytes h = ((h 0, h 1, h 2, h 3), refl)
@@ -122,14 +133,17 @@ read_form_written letter f bytes p writes h e =
     let whole = rw zero-add at (items_rest bytes 0 f.width (omega arith)) in
     rw ok.1 (w.0, rw w.1 (ap (λ t. letter ∷ t) whole))
 
-read_operands_written : (letter : ℕ) (f : Option Form) (bytes : List ℕ) (p : Command × List ℕ) → FormWrites letter f → BytesAt bytes
+read_operands_written : (letter : ℕ) (f : Option Form) (bytes : List ℕ) (p : Command × List ℕ) → FormWrites letter f
+    → BytesAt bytes
     → read_operands f bytes ≡ Ok p → WasWritten (letter ∷ bytes) p
 read_operands_written letter None bytes p writes h e = absurd cc
 read_operands_written letter (Some f) bytes p writes h e = read_form_written letter f bytes p writes h e
 
-pub read_command-bytes : (bytes : List ℕ) (p : Command × List ℕ) → BytesAt bytes → read_command bytes ≡ Ok p → OperandsFit p.0 × (bytes ≡ bytes_of p.0 ++ p.1)
+pub read_command-bytes : (bytes : List ℕ) (p : Command × List ℕ) → BytesAt bytes → read_command bytes ≡ Ok p
+    → OperandsFit p.0 × (bytes ≡ bytes_of p.0 ++ p.1)
 read_command-bytes [] p h e = absurd cc
-read_command-bytes (letter ∷ bytes) p h e = read_operands_written letter (form_of letter) bytes p (form_writes letter) (λ i. h (suc i)) e
+read_command-bytes (letter ∷ bytes) p h e =
+    read_operands_written letter (form_of letter) bytes p (form_writes letter) (λ i. h (suc i)) e
 
 -- ---- what is written is bytes
 
@@ -142,7 +156,8 @@ bytes_of-bytes c h = all_bytes (bytes_of c) (are_bytes c h)
 
 -- ---- the law
 
-pub reader_law : (script : List ℕ) (answer : Result (Command × List ℕ) Refusal) → BytesAt script → answer ≡ read_command script → AnswersFirstCommand script answer
+pub reader_law : (script : List ℕ) (answer : Result (Command × List ℕ) Refusal) → BytesAt script
+    → answer ≡ read_command script → AnswersFirstCommand script answer
 reader_law script answer h e = record {
   accepts = λ c rest is. read_command-bytes script (c, rest) h (sym e ∙ is);
   reads = λ c rest fits is. e ∙ ap read_command is ∙ bytes_of-read c rest fits;

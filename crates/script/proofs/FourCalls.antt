@@ -1,5 +1,6 @@
 -- The calls of a command that reads two keys by one snapshot.
-use Rattle.std.proofs.Common.{◌≡◌, ℕ, Bool, true, false, cond, eqb, get_or, Some, None, Ok, Err, Option, Result, sym, refl, ap, ◌∙◌}
+use Rattle.std.proofs.Common.{◌≡◌, ℕ, Bool, true, false, cond, eqb, get_or, Some, None, Ok, Err, Option, Result, sym}
+use Rattle.std.proofs.Common.{refl, ap, ◌∙◌}
 use Rattle.std.proofs.lemmas.Bool.{cond-true, eq-eqb}
 use Rattle.stamps.specs.declared.refusal.Refusal.{Refusal}
 use Rattle.stamps.specs.declared.refusal.Refusal.TheVariants.{NotOpen}
@@ -15,7 +16,8 @@ use Rattle.script.specs.declared.answer.Answer.TheVariants.{Both}
 use Rattle.script.specs.CommandCalls.{view_both, view_by}
 
 -- the four calls, one after the other
-pub four_calls : (rule : Rule) (k : Kind) (before opened once twice after : GroupState) (session partition first second : ℕ) (t : Ticket)
+pub four_calls : (rule : Rule) (k : Kind) (before opened once twice after : GroupState)
+    (session partition first second : ℕ) (t : Ticket)
     (a b : Result (Option Shown) Refusal) (c : Result Done Refusal)
     → (Ok t, opened) ≡ step rule k before (open_snapshot session partition) → (a, once) ≡ step rule k opened (read t first)
     → (b, twice) ≡ step rule k once (read t second) → (c, after) ≡ step rule k twice (close t)
@@ -25,7 +27,8 @@ four_calls rule k before opened once twice after session partition first second 
     let two = step rule k one.1 (read t second) in
     (Both one.0 two.0, (step rule k two.1 (close t)).1)
     in
-    let last : Result (Option Shown) Refusal × GroupState → Answer × GroupState = λ two. (Both a two.0, (step rule k two.1 (close t)).1) in
+    let last : Result (Option Shown) Refusal × GroupState
+    → Answer × GroupState = λ two. (Both a two.0, (step rule k two.1 (close t)).1) in
     let end : Result Done Refusal × GroupState → Answer × GroupState = λ o. (Both a b, o.1) in
     ap end closes ∙ ap last reads_second ∙ ap then reads_first ∙ ap (λ o. view_by rule k o first second) opens
 
@@ -61,7 +64,8 @@ read_seats rule k g t key = by_seat (seat_at g t.seat)
 pub stays_open : (rule : Rule) (k : Kind) (g after : GroupState) (t u : Ticket) (key : ℕ) (a : Result (Option Shown) Refusal)
     → (a, after) ≡ step rule k g (read u key) → HasOpen g t → HasOpen after t
 stays_open rule k g after t u key a reads h =
-    let same : after.seats ≡ g.seats = ap (λ (o : Result (Option Shown) Refusal × GroupState). o.1.seats) reads ∙ read_seats rule k g u key in
+    let same : after.seats ≡ g.seats = ap (λ (o : Result (Option Shown) Refusal × GroupState). o.1.seats) reads
+    ∙ read_seats rule k g u key in
     record {
       snapshot = h.snapshot;
       there = ap (λ ys. get_or ys t.seat None) same ∙ h.there;
@@ -75,4 +79,4 @@ closes rule k g after t c is h =
     let act : SeatState → Result Done Refusal × GroupState = λ y. (Ok tt, with_seat g t.seat None g.next_serial) in
     ap (λ (o : Result Done Refusal × GroupState). o.0)
     (is ∙ ap (λ o. on_seat_of g t.serial o act) h.there
-        ∙ cond-true (eqb h.snapshot.serial t.serial) (act h.snapshot) (Err NotOpen, g) (eq-eqb _ _ h.serial))
+    ∙ cond-true (eqb h.snapshot.serial t.serial) (act h.snapshot) (Err NotOpen, g) (eq-eqb _ _ h.serial))

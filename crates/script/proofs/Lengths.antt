@@ -1,5 +1,6 @@
 -- How long the pieces of a line are at most.
-use Rattle.std.proofs.Common.{◌≡◌, ℕ, zero, suc, ◌+◌, ◌<◌, ◌≤◌, ◌^◌, List, [], ◌∷◌, ◌++◌, length, get_or, take, decimal, ℤ, sym, refl, ap, ◌∙◌, arith}
+use Rattle.std.proofs.Common.{◌≡◌, ℕ, zero, suc, ◌+◌, ◌<◌, ◌≤◌, ◌^◌, List, [], ◌∷◌, ◌++◌, length, get_or, take, decimal}
+use Rattle.std.proofs.Common.{ℤ, sym, refl, ap, ◌∙◌, arith}
 use lib.Signed.{mag}
 use Rattle.std.specs.Fmt.{signed_decimal}
 use Rattle.std.proofs.lemmas.List.{append_assoc, append-nil, length-append, length-take-le, take_all, take_at, take_more}
@@ -25,5 +26,15 @@ pub digits_signed : (z : ℤ) → mag z < 2 ^ 63 → length (signed_decimal z) �
 digits_signed z small = length_signed_le 19 z (omega arith) (omega arith)
 
 -- pieces that are put at the end of a line, one after the other
-pub ruleset pieces =
-    (append_assoc, append-nil, length-append, length-decimal-le, digits_of_8_bits, digits_of_16_bits, digits_of_32_bits, digits_of_47_bits, digits_of_64_bits, digits_signed)
+pub ruleset pieces = (
+  append_assoc,
+  append-nil,
+  length-append,
+  length-decimal-le,
+  digits_of_8_bits,
+  digits_of_16_bits,
+  digits_of_32_bits,
+  digits_of_47_bits,
+  digits_of_64_bits,
+  digits_signed,
+)

@@ -1,5 +1,6 @@
 -- How a script goes on as the listing over the group that its layout made.
-use Rattle.std.proofs.Common.{◌≡◌, ℕ, ◌+◌, List, [], ◌∷◌, ◌++◌, length, get_or, take, Some, Ok, Err, Result, sym, refl, ap, ◌∙◌, arith}
+use Rattle.std.proofs.Common.{◌≡◌, ℕ, ◌+◌, List, [], ◌∷◌, ◌++◌, length, get_or, take, Some, Ok, Err, Result, sym, refl}
+use Rattle.std.proofs.Common.{ap, ◌∙◌, arith}
 use Rattle.std.proofs.Math.Seq.{take-append-add}
 use Rattle.std.proofs.lemmas.List.{length-append}
 use Rattle.stamps.specs.declared.refusal.Refusal.{Refusal}
@@ -17,7 +18,8 @@ use Rattle.script.specs.Lines.{line_of}
 use Rattle.script.specs.Listings.{GoesOnAsScript, after_layout, as_script, line_as_script}
 use Rattle.script.specs.Scripts.{Obey, ScriptState, new_script, next, next_at, counted_line, next_answer, after_read, after_obey}
 use Rattle.script.specs.CommandCalls.{perform}
-use Rattle.script.specs.ScriptGroups.{ScriptGroup, clock_rule_of, as_some_group, some_group, make_group, mark_kind_of, obey, answer_of_making}
+use Rattle.script.specs.ScriptGroups.{ScriptGroup, clock_rule_of, as_some_group, some_group, make_group, mark_kind_of}
+use Rattle.script.specs.ScriptGroups.{obey, answer_of_making}
 use Rattle.script.proofs.NextAnswers.{next_is, read_obeyed}
 
 -- after its layout a script stands where the listing over the group that was made begins
@@ -44,11 +46,13 @@ begins sites partitions clock_letter marks_letter bytes clock marks g fits makes
     long = ap length is ∙ length-append (bytes_of layout) rest
 
     step : after_obey s rest (Ok Done, some_group clock marks g) ≡ next_answer obey s
-    step = read_obeyed obey s layout rest (Ok Done, some_group clock marks g) (sym (ap read_command is ∙ bytes_of-read layout rest fits)) (sym (ap answer_of_making makes))
+    step = read_obeyed obey s layout rest (Ok Done, some_group clock marks g)
+        (sym (ap read_command is ∙ bytes_of-read layout rest fits)) (sym (ap answer_of_making makes))
 
 -- a script that has made its group goes on as the listing over this group
 then_alike : (clock : Clock) (marks : Marks) (s : ScriptState GroupState)
-    → next obey (as_script clock marks s) ≡ line_as_script clock marks (next (perform (clock_rule_of clock) (mark_kind_of marks)) s)
+    → next obey (as_script clock marks s) ≡ line_as_script clock marks
+    (next (perform (clock_rule_of clock) (mark_kind_of marks)) s)
 then_alike clock marks s = by_rest s.rest
   where
     performing : Obey GroupState

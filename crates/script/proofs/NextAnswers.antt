@@ -26,10 +26,12 @@ module _ {S : Type 0} (act : Obey S) (s : ScriptState S) where
       by_read (Ok (command, rest)) = by_outcome rest (act s.group command)
 
   -- where bytes are left, the next line is that of the step
-  pub next_is : (letter : ℕ) → 0 < length s.rest → get_or s.rest 0 0 ≡ letter → Some (counted_line letter (next_answer act s)) ≡ next act s
+  pub next_is : (letter : ℕ) → 0 < length s.rest → get_or s.rest 0 0 ≡ letter
+      → Some (counted_line letter (next_answer act s)) ≡ next act s
   next_is letter some first = go s.rest some first
     where
-      go : (bytes : List ℕ) → 0 < length bytes → get_or bytes 0 0 ≡ letter → Some (counted_line letter (next_answer act s)) ≡ next_at act s bytes
+      go : (bytes : List ℕ) → 0 < length bytes → get_or bytes 0 0 ≡ letter
+          → Some (counted_line letter (next_answer act s)) ≡ next_at act s bytes
       go [] h e = absurd (omega arith)
       go (b ∷ bytes) h e = ap (λ l. Some (counted_line l (next_answer act s))) (sym e)
 

@@ -42,7 +42,8 @@ pub four_read : (n : ℕ) → n < 2 ^ 32 → (byte_at 3 n * 256 + byte_at 2 n) *
 four_read n h = omega arith
 
 pub six_read : (n : ℕ) → n < 2 ^ 48
-    → (byte_at 5 n * 256 + byte_at 4 n) * 4294967296 + ((byte_at 3 n * 256 + byte_at 2 n) * 65536 + (byte_at 1 n * 256 + byte_at 0 n)) ≡ n
+    → (byte_at 5 n * 256 + byte_at 4 n) * 4294967296 + ((byte_at 3 n * 256 + byte_at 2 n) *
+    65536 + (byte_at 1 n * 256 + byte_at 0 n)) ≡ n
 six_read n h = omega arith
 
 -- a number that is read from bytes is in its range, and they are its bytes
@@ -50,7 +51,8 @@ pub two_written : (a b : ℕ) → AreBytes (a ∷ b ∷ []) → (a * 256 + b < 2
 two_written a b h = (omega arith, be_bytes_2 (a ∷ b ∷ []) (a * 256 + b) refl (each_byte (a ∷ b ∷ []) h) (omega arith))
 
 pub four_written : (a b c d : ℕ) → AreBytes (a ∷ b ∷ c ∷ d ∷ [])
-    → ((a * 256 + b) * 65536 + (c * 256 + d) < 2 ^ 32) × (bytes_high_first 4 ((a * 256 + b) * 65536 + (c * 256 + d)) ≡ a ∷ b ∷ c ∷ d ∷ [])
+    → ((a * 256 + b) * 65536 + (c * 256 + d) < 2 ^ 32)
+    × (bytes_high_first 4 ((a * 256 + b) * 65536 + (c * 256 + d)) ≡ a ∷ b ∷ c ∷ d ∷ [])
 four_written a b c d h =
     let all = a ∷ b ∷ c ∷ d ∷ [] in
     (omega arith, be_bytes_4 all ((a * 256 + b) * 65536 + (c * 256 + d)) refl (each_byte all h) (omega arith))

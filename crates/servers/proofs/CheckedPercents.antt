@@ -6,7 +6,8 @@ use Rattle.stamps.specs.declared.refusal.Refusal.TheVariants.{Unlawful}
 use Rattle.servers.specs.declared.percent.Percent.{Percent}
 use Rattle.servers.specs.Percents.{percent_if, checked_percent}
 
-percent_fits : (n : ℕ) (few : Bool) (is : leb n 10000 ≡ few) (h : n ≤ 10000) → Ok (record { hundredths = n; in_range = h }) ≡ percent_if n few is
+percent_fits : (n : ℕ) (few : Bool) (is : leb n 10000 ≡ few) (h : n ≤ 10000)
+    → Ok (record { hundredths = n; in_range = h }) ≡ percent_if n few is
 percent_fits n true is h = ap (λ (fits : n ≤ 10000). Ok (record { hundredths = n; in_range = fits })) (le_prop _ _)
 percent_fits n false is h = absurd (let l = leb-false n 10000 is in omega arith)
 

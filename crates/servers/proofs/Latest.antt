@@ -1,5 +1,6 @@
 -- The latest under a test: held, shown, and nothing shown is later.
-use Rattle.std.proofs.Common.{◌≡◌, ℕ, Bool, true, false, cond, ◌&&◌, eqb, ◌⊎◌, List, [], ◌∷◌, Some, None, Option, sym, refl, ◌∙◌, subst, inl, inr, ⊎_elim, arith}
+use Rattle.std.proofs.Common.{◌≡◌, ℕ, Bool, true, false, cond, ◌&&◌, eqb, ◌⊎◌, List, [], ◌∷◌, Some, None, Option, sym}
+use Rattle.std.proofs.Common.{refl, ◌∙◌, subst, inl, inr, ⊎_elim, arith}
 use Rattle.std.proofs.lemmas.Bool.{and_from, and_parts, eq-eqb, eqb-true, false≢true}
 use Rattle.std.proofs.lemmas.Bool.Decides.{nat_tests}
 use Rattle.servers.specs.Versions.{is_later}
@@ -53,11 +54,14 @@ module _ (test : Version → Bool) (key : ℕ) where
       (o.0, λ w i p. ⊎_elim (λ e. never o.0 (subst (Passes test key) e p)) (λ j. o.1 w j p) i)
   passed_over found v vs (Some b) worse never o = (
     ⊎_elim inl (λ h. inr (inr h.0, h.1)) o.0,
-    λ w i p. ⊎_elim (λ e. subst (IsAsLateVersion b) (sym e) (over_found found (subst (Passes test key) e p) never (λ a f q. as_late_trans b a v (o.2 a f) (worse a f q)))) (λ j. o.1 w j p) i,
+    λ w i p. ⊎_elim (λ e. subst (IsAsLateVersion b) (sym e)
+        (over_found found (subst (Passes test key) e p) never (λ a f q. as_late_trans b a v (o.2 a f) (worse a f q))))
+        (λ j. o.1 w j p) i,
     o.2,
   )
     where
-      over_found : (f : Option Version) → Passes test key v → (f ≡ None → Passes test key v → ⊥) → ((a : Version) → f ≡ Some a → Passes test key v → IsAsLateVersion b v) → IsAsLateVersion b v
+      over_found : (f : Option Version) → Passes test key v → (f ≡ None → Passes test key v → ⊥)
+          → ((a : Version) → f ≡ Some a → Passes test key v → IsAsLateVersion b v) → IsAsLateVersion b v
       over_found None p never' late = absurd (never' refl p)
       over_found (Some a) p never' late = late a refl p
 
@@ -68,45 +72,56 @@ module _ (test : Version → Bool) (key : ℕ) where
   taken_up found v vs None passes over o = let z : ◌≡◌ {A = ℕ} 0 1 = cc in absurd (omega arith)
   taken_up found v vs (Some b) passes over o =
       let late = o.2 v refl in (
-        inr (⊎_elim (λ e. let same : b ≡ v = cc in (inl same, subst (Passes test key) (sym same) passes)) (λ h. (inr h.0, h.1)) o.0),
+        inr (⊎_elim (λ e. let same : b ≡ v = cc in (inl same, subst (Passes test key) (sym same) passes))
+            (λ h. (inr h.0, h.1)) o.0),
         λ w i p. ⊎_elim (λ e. subst (IsAsLateVersion b) (sym e) late) (λ j. o.1 w j p) i,
         λ a e. as_late_trans b v a late (later_as_late v a (over a e)),
       )
 
-  better_outcome : (found : Option Version) (v : Version) (vs : List Version) (r : Option Version) → Outcome (better_of test key found v) vs r → Outcome found (v ∷ vs) r
+  better_outcome : (found : Option Version) (v : Version) (vs : List Version) (r : Option Version)
+      → Outcome (better_of test key found v) vs r → Outcome found (v ∷ vs) r
   better_outcome None v vs r o = go (eqb v.key key && test v) refl o
     where
       go : (t : Bool) → (eqb v.key key && test v) ≡ t → Outcome (cond t (Some v) None) vs r → Outcome None (v ∷ vs) r
       go true e o' =
           let parts = and_parts (eqb v.key key) (test v) e in
-          taken_up None v vs r (eqb-true v.key key parts.0, parts.1) (λ a n. let z : ◌≡◌ {A = ℕ} 0 1 = cc in absurd (omega arith)) o'
+          taken_up None v vs r (eqb-true v.key key parts.0, parts.1)
+          (λ a n. let z : ◌≡◌ {A = ℕ} 0 1 = cc in absurd (omega arith)) o'
       go false e o' =
           passed_over None v vs r (λ a n. let z : ◌≡◌ {A = ℕ} 0 1 = cc in absurd (omega arith))
           (λ _ p. false≢true (sym e ∙ and_from (eqb v.key key) (test v) (eq-eqb v.key key p.0) p.1)) o'
   better_outcome (Some a) v vs r o = go (eqb v.key key && (test v && is_later v a)) refl o
     where
-      go : (t : Bool) → (eqb v.key key && (test v && is_later v a)) ≡ t → Outcome (cond t (Some v) (Some a)) vs r → Outcome (Some a) (v ∷ vs) r
+      go : (t : Bool) → (eqb v.key key && (test v && is_later v a)) ≡ t → Outcome (cond t (Some v) (Some a)) vs r
+          → Outcome (Some a) (v ∷ vs) r
       go true e o' =
           let parts = and_parts (eqb v.key key) (test v && is_later v a) e in
           let more = and_parts (test v) (is_later v a) parts.1 in
-          taken_up (Some a) v vs r (eqb-true v.key key parts.0, more.0) (λ b n. let same : a ≡ b = cc in subst (IsLaterVersion v) same (later_gives v a more.1)) o'
+          taken_up (Some a) v vs r (eqb-true v.key key parts.0, more.0)
+          (λ b n. let same : a ≡ b = cc in subst (IsLaterVersion v) same (later_gives v a more.1)) o'
       go false e o' =
           passed_over (Some a) v vs r
-          (λ b n p. let same : a ≡ b = cc in subst (λ x. IsAsLateVersion x v) same (later_not v a (not_later (is_later v a) refl p)))
+          (λ b n p. let same : a ≡ b = cc in
+          subst (λ x. IsAsLateVersion x v) same (later_not v a (not_later (is_later v a) refl p)))
           (λ n p. let z : ◌≡◌ {A = ℕ} 0 1 = cc in absurd (omega arith)) o'
         where
           not_later : (l : Bool) → is_later v a ≡ l → Passes test key v → l ≡ false
-          not_later true is p = absurd (false≢true (sym e ∙ and_from (eqb v.key key) (test v && is_later v a) (eq-eqb v.key key p.0) (and_from (test v) (is_later v a) p.1 is)))
+          not_later true is p = absurd (false≢true
+              (sym e ∙ and_from (eqb v.key key) (test v && is_later v a) (eq-eqb v.key key p.0)
+              (and_from (test v) (is_later v a) p.1 is)))
           not_later false is p = refl
 
   outcome : (found : Option Version) (vs : List Version) → Outcome found vs (latest_from test key found vs)
   outcome None [] = (refl, λ v i p. i)
-  outcome (Some a) [] = (inl refl, λ v i p. absurd i, λ b e. let same : a ≡ b = cc in subst (IsAsLateVersion a) same (as_late_self a))
-  outcome found (v ∷ vs) = better_outcome found v vs (latest_from test key (better_of test key found v) vs) (outcome (better_of test key found v) vs)
+  outcome (Some a) [] =
+      (inl refl, λ v i p. absurd i, λ b e. let same : a ≡ b = cc in subst (IsAsLateVersion a) same (as_late_self a))
+  outcome found (v ∷ vs) = better_outcome found v vs (latest_from test key (better_of test key found v) vs)
+      (outcome (better_of test key found v) vs)
 
   settled : (vs : List Version) (r : Option Version) → Outcome None vs r → IsLatest test key vs r
   settled vs None o = λ v c. o.1 v (in_list vs v c)
-  settled vs (Some b) o = ⊎_elim (λ e. let z : ◌≡◌ {A = ℕ} 0 1 = cc in absurd (omega arith)) (λ h. (contained vs b h.0, h.1, λ v c. o.1 v (in_list vs v c))) o.0
+  settled vs (Some b) o = ⊎_elim (λ e. let z : ◌≡◌ {A = ℕ} 0 1 = cc in absurd (omega arith))
+      (λ h. (contained vs b h.0, h.1, λ v c. o.1 v (in_list vs v c))) o.0
 
   pub latest_law : (vs : List Version) → IsLatest test key vs (latest test key vs)
   latest_law vs = settled vs (latest test key vs) (outcome None vs)

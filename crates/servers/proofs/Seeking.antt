@@ -35,7 +35,8 @@ pub seek_all : (test : Version → Bool) (key : ℕ) (d : Version) (vs : List Ve
 seek_all test key d vs i found le inv = rw (drop_all i vs le) at inv
 
 -- the version at a place is what stands there
-pub stands : (d : Version) (xs : List Version) (found : Option ℕ) → within found (length xs) → version_at xs found ≡ standing d xs found
+pub stands : (d : Version) (xs : List Version) (found : Option ℕ) → within found (length xs)
+    → version_at xs found ≡ standing d xs found
 stands d xs None w = refl
 stands d xs (Some i) lt = slice_get-get_or xs i d lt
 

@@ -1,5 +1,6 @@
 -- An outbox is a queue for each other site.
-use Rattle.std.proofs.Common.{◌≡◌, ℕ, suc, ◌<◌, ◌≤◌, Bool, true, false, cond, ◌&&◌, ◌||◌, eqb, leb, List, [], ◌∷◌, ◌++◌, length, drop, sym, refl, ap, ◌∙◌, arith}
+use Rattle.std.proofs.Common.{◌≡◌, ℕ, suc, ◌<◌, ◌≤◌, Bool, true, false, cond, ◌&&◌, ◌||◌, eqb, leb, List, [], ◌∷◌, ◌++◌}
+use Rattle.std.proofs.Common.{length, drop, sym, refl, ap, ◌∙◌, arith}
 use Rattle.std.proofs.lemmas.List.{append_assoc, append-nil, length-append, length-drop}
 use Rattle.std.proofs.lemmas.Bool.{and_parts, cond_both, cond-false, cond-true, leb-false, ltb-true, or_parts}
 use Rattle.servers.specs.declared.entry.Entry.{Entry}
@@ -23,33 +24,49 @@ no_length [] e = refl
 no_length (x ∷ xs) e = absurd (omega arith)
 
 taken_all : (t q s : List Entry) → t ++ q ≡ s → (q ≡ [] → t ≡ s) × (t ≡ s → q ≡ [])
-taken_all t q s e =
-    (λ none. sym (append-nil t) ∙ ap (λ r. t ++ r) (sym none) ∙ e, λ all. let l = ap length e in let m = ap length all in let n = length-append t q in no_length q (omega arith))
+taken_all t q s e = (
+  λ none. sym (append-nil t) ∙ ap (λ r. t ++ r) (sym none)
+      ∙ e,
+  λ all. let l = ap length e in let m = ap length all in let n = length-append t q in
+      no_length q (omega arith),
+)
 
 is_queue : (own sites : ℕ) (t : Traffic) → ((site : ℕ) → is_other own sites site ≡ true → t.taken site ++ t.queues site ≡ t.sent)
-    → ((site : ℕ) → is_other own sites site ≡ true → length (t.queues site) ≤ 16) → ((site : ℕ) → is_other own sites site ≡ false → t.queues site ≡ []) → IsQueue own sites t
+    → ((site : ℕ) → is_other own sites site ≡ true → length (t.queues site) ≤ 16)
+    → ((site : ℕ) → is_other own sites site ≡ false → t.queues site ≡ []) → IsQueue own sites t
 is_queue own sites t whole short none =
-    record { whole = whole; done = λ site other. taken_all (t.taken site) (t.queues site) t.sent (whole site other); short = short; none = none }
+    record {
+      whole = whole;
+      done = λ site other. taken_all (t.taken site) (t.queues site) t.sent (whole site other);
+      short = short;
+      none = none;
+    }
 
 -- an outbox that is not full has room for every other site
-has_room : (own sites : ℕ) (w : Queues) (site : ℕ) → is_queue_full own sites w site ≡ false → is_other own sites site ≡ true → length (w site) < 16
+has_room : (own sites : ℕ) (w : Queues) (site : ℕ) → is_queue_full own sites w site ≡ false
+    → is_other own sites site ≡ true → length (w site) < 16
 has_room own sites w site free other = leb-false 16 (length (w site)) (ap (λ b. b && leb 16 (length (w site))) (sym other) ∙ free)
 
-room : (own sites : ℕ) (w : Queues) (site : ℕ) → sites ≤ 4 → is_outbox_full own sites w ≡ false → is_other own sites site ≡ true → length (w site) < 16
+room : (own sites : ℕ) (w : Queues) (site : ℕ) → sites ≤ 4 → is_outbox_full own sites w ≡ false
+    → is_other own sites site ≡ true → length (w site) < 16
 room own sites w site few free =
-    let a = or_parts (is_queue_full own sites w 0) (is_queue_full own sites w 1 || (is_queue_full own sites w 2 || is_queue_full own sites w 3)) free in
+    let a = or_parts (is_queue_full own sites w 0)
+    (is_queue_full own sites w 1 || (is_queue_full own sites w 2 || is_queue_full own sites w 3)) free in
     let b = or_parts (is_queue_full own sites w 1) (is_queue_full own sites w 2 || is_queue_full own sites w 3) a.1 in
     let c = or_parts (is_queue_full own sites w 2) (is_queue_full own sites w 3) b.1 in
     by_site (λ i. is_other own sites i ≡ true → length (w i) < 16)
     (has_room own sites w 0 a.0) (has_room own sites w 1 b.0) (has_room own sites w 2 c.0) (has_room own sites w 3 c.1)
     (λ n other. let l = ltb-true (suc (suc (suc (suc n)))) sites (and_parts _ _ other).0 in absurd (omega arith)) site
 
-issue_keeps : (own sites : ℕ) (t : Traffic) (e : Entry) → sites ≤ 4 → is_outbox_full own sites t.queues ≡ false → IsQueue own sites t
+issue_keeps : (own sites : ℕ) (t : Traffic) (e : Entry) → sites ≤ 4 → is_outbox_full own sites t.queues ≡ false
+    → IsQueue own sites t
     → IsQueue own sites (record { queues = issue_entry own sites t.queues e; sent = t.sent ++ e ∷ []; taken = t.taken })
 issue_keeps own sites t e few free h =
     is_queue own sites (record { queues = issue_entry own sites t.queues e; sent = t.sent ++ e ∷ []; taken = t.taken })
-    (λ site other. ap (λ q. t.taken site ++ q) (more site other) ∙ sym (append_assoc (t.taken site) (t.queues site) (e ∷ [])) ∙ ap (λ s. s ++ e ∷ []) (h.whole site other))
-    (λ site other. let l = ap length (more site other) ∙ length-append (t.queues site) (e ∷ []) in let r = room own sites t.queues site few free other in omega arith)
+    (λ site other. ap (λ q. t.taken site ++ q) (more site other)
+    ∙ sym (append_assoc (t.taken site) (t.queues site) (e ∷ [])) ∙ ap (λ s. s ++ e ∷ []) (h.whole site other))
+    (λ site other. let l = ap length (more site other)
+    ∙ length-append (t.queues site) (e ∷ []) in let r = room own sites t.queues site few free other in omega arith)
     (λ site other. cond-false (is_other own sites site) (t.queues site ++ e ∷ []) (t.queues site) other ∙ h.none site other)
   where
     more : (site : ℕ) → is_other own sites site ≡ true → issue_entry own sites t.queues e site ≡ t.queues site ++ e ∷ []
@@ -69,11 +86,14 @@ take_empty true q e = ap (drop 1) e
 take_empty false q e = e
 
 pub queue_law : (own sites : ℕ) → sites ≤ 4 → StaysQueue own sites
-queue_law own sites few [] = is_queue own sites (traffic own sites []) (λ site other. refl) (λ site other. omega arith) (λ site other. refl)
+queue_law own sites few [] =
+    is_queue own sites (traffic own sites []) (λ site other. refl) (λ site other. omega arith) (λ site other. refl)
 queue_law own sites few (issue e ∷ ms) =
     let t = traffic own sites ms in
     let h = queue_law own sites few ms in
-    cond_both (is_outbox_full own sites t.queues) t (record { queues = issue_entry own sites t.queues e; sent = t.sent ++ e ∷ []; taken = t.taken }) (IsQueue own sites)
+    cond_both (is_outbox_full own sites t.queues) t
+    (record { queues = issue_entry own sites t.queues e; sent = t.sent ++ e ∷ []; taken = t.taken })
+    (IsQueue own sites)
     (λ _. h) (λ free. issue_keeps own sites t e few free h)
 queue_law own sites few (take taker ∷ ms) =
     let t = traffic own sites ms in

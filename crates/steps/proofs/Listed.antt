@@ -7,7 +7,8 @@ use Rattle.script.proofs.FirstBytes.{law_same, listing_same}
 
 -- what is read up to a limit of known bytes is the first of them
 pub first_read : (known : Option (List ℕ)) (limit : ℕ) (before script : List ℕ) → limit ≡ 65535 → before ≡ []
-    → IfSome (option_map (take limit) known) (λ bytes. script ≡ before ++ bytes) → IfSome known (λ input. script ≡ script_of input)
+    → IfSome (option_map (take limit) known) (λ bytes. script ≡ before ++ bytes)
+    → IfSome known (λ input. script ≡ script_of input)
 first_read None limit before script is none reads = tt
 first_read (Some input) limit before script is none reads = rw (is, none) at reads
 

@@ -212,10 +212,7 @@ fn at_equal_stamps_the_higher_source_is_later(rt: HostRuntime) -> Result<(), Fai
         return Err(Fail::new("nothing is covered"));
     };
     let version = &taker.versions()[index];
-    assert_eq!(rt;
-        (version.value.amount(), version.source.number()),
-        (20, 1)
-    );
+    assert_eq!(rt; (version.value.amount(), version.source.number()), (20, 1));
     Ok(())
 }
 

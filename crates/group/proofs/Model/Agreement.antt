@@ -17,7 +17,8 @@ use Rattle.group.proofs.Model.Showing.{as_late_trans, same_time, stands_late}
 use Rattle.group.proofs.Model.Histories.{Inv}
 use Rattle.group.proofs.Model.SessionLines.{held_from, held_in}
 
-module _ {k : Kind} {sites : ℕ} {h : History} {g : GroupState} {G : Ghost} (v : Inv k sites h g G) (quiet : HasEmptyOutboxes g) where
+module _ {k : Kind} {sites : ℕ} {h : History} {g : GroupState} {G : Ghost} (v : Inv k sites h g G)
+    (quiet : HasEmptyOutboxes g) where
   abbrev L : Shape
   L = shape g v.frame.layout.few_sites v.frame.layout.some_partitions
 
@@ -26,7 +27,8 @@ module _ {k : Kind} {sites : ℕ} {h : History} {g : GroupState} {G : Ghost} (v 
   had w s l i = ⊎_elim
       (λ e. subst (λ (z : ℕ). Had L (λ a b. (g.server a b).marks.received) z w) (sym e) (v.core.logs.stamped w i))
       (λ ne. ⊎_elim (λ r. r)
-      (λ p. absurd (subst (InList (Update w)) (quiet w.source s (part L w.key) (v.core.logs.source w i) l (part_small L w.key)) p))
+      (λ p. absurd (subst (InList (Update w)) (quiet w.source s (part L w.key) (v.core.logs.source w i) l
+      (part_small L w.key)) p))
       (v.core.queues.reach w s i l ne))
       (cases_eq s w.source)
 

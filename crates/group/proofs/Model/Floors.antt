@@ -23,10 +23,13 @@ module _ {k : Kind} (law : IsLawfulKind k) where
   pub common_below : (xs : List PerSite) → AllStamps xs → (x : PerSite) → InList x xs → Covers x (common_floor k xs)
   common_below [] st x i = absurd i
   common_below (y ∷ ys) st x (inl e) =
-      subst (λ (z : PerSite). Covers z (common_floor k (y ∷ ys))) (sym e) (covers_trans (floor_under law (st y (inl refl))) (meet_left (k.floor y) (common_floor k ys)))
-  common_below (y ∷ ys) st x (inr i) = covers_trans (common_below ys (λ z j. st z (inr j)) x i) (meet_right (k.floor y) (common_floor k ys))
+      subst (λ (z : PerSite). Covers z (common_floor k (y ∷ ys))) (sym e)
+      (covers_trans (floor_under law (st y (inl refl))) (meet_left (k.floor y) (common_floor k ys)))
+  common_below (y ∷ ys) st x (inr i) =
+      covers_trans (common_below ys (λ z j. st z (inr j)) x i) (meet_right (k.floor y) (common_floor k ys))
 
-  pub common_greatest : (xs : List PerSite) → AllStamps xs → (m : PerSite) → IsMark k m → ((x : PerSite) → InList x xs → Covers x m) → Covers (common_floor k xs) m
+  pub common_greatest : (xs : List PerSite) → AllStamps xs → (m : PerSite) → IsMark k m
+      → ((x : PerSite) → InList x xs → Covers x m) → Covers (common_floor k xs) m
   common_greatest [] st m mk c = let s = mk.0 in (omega arith, omega arith, omega arith, omega arith)
   common_greatest (x ∷ xs) st m mk c =
       meet_greatest (k.floor x) (common_floor k xs) m

@@ -1,5 +1,6 @@
 -- The whole invariant: of the group, of what the history tells of it, and of what the proof remembers.
-use Rattle.std.proofs.Common.{◌≡◌, ℕ, ◌^◌, ◌<◌, ◌≤◌, ◌∷◌, length, Some, None, Option, sym, refl, ◌∙◌, subst, ⊎_elim, le_trans, le_refl, arith}
+use Rattle.std.proofs.Common.{◌≡◌, ℕ, ◌^◌, ◌<◌, ◌≤◌, ◌∷◌, length, Some, None, Option, sym, refl, ◌∙◌, subst, ⊎_elim}
+use Rattle.std.proofs.Common.{le_trans, le_refl, arith}
 use Rattle.stamps.specs.Rows.{PerSite}
 use Rattle.stamps.specs.Kinds.{Kind}
 use Rattle.servers.specs.Servers.{ServerState}
@@ -63,7 +64,8 @@ pub record Inv (k : Kind) (sites : ℕ) (h : History) (g : GroupState) (G : Ghos
 pub record Grows (k : Kind) (next next' : ℕ) (G G' : Ghost) : Type 0 where
   pub more : next ≤ next'
   pub same_cut : (q : ℕ) → q < next → G'.cut_of q ≡ G.cut_of q
-  pub best : (q : ℕ) → q < next → (key : ℕ) (o : Option Version) → Best k G.log (G.cut_of q) key o → Best k G'.log (G.cut_of q) key o
+  pub best : (q : ℕ) → q < next → (key : ℕ) (o : Option Version) → Best k G.log (G.cut_of q) key o
+      → Best k G'.log (G.cut_of q) key o
 
 pub grows_same : (k : Kind) (next : ℕ) (G : Ghost) → Grows k next next G G
 grows_same k next G = record { more = le_refl next; same_cut = λ q l. refl; best = λ q l key o b. b }
@@ -72,15 +74,19 @@ pub grows_on : {k : Kind} {a b c : ℕ} {G H I : Ghost} → Grows k a b G H → 
 grows_on {k} {a} {b} {c} {G} {H} {I} p q = record {
   more = le_trans p.more q.more;
   same_cut = λ x l. q.same_cut x (le_trans l p.more) ∙ p.same_cut x l;
-  best = λ x l key o h. subst (λ (m : PerSite). Best k I.log m key o) (p.same_cut x l) (q.best x (le_trans l p.more) key o (subst (λ (m : PerSite). Best k H.log m key o) (sym (p.same_cut x l)) (p.best x l key o h)));
+  best = λ x l key o h. subst (λ (m : PerSite). Best k I.log m key o) (p.same_cut x l)
+      (q.best x (le_trans l p.more) key o (subst (λ (m : PerSite). Best k H.log m key o) (sym (p.same_cut x l))
+      (p.best x l key o h)));
 }
 
-pub read_grows : {k : Kind} {next next' : ℕ} {G G' : Ghost} → Grows k next next' G G' → (t : Ticket) (key : ℕ) (o : Option Shown) → ReadRight k G next t key o → ReadRight k G' next' t key o
+pub read_grows : {k : Kind} {next next' : ℕ} {G G' : Ghost} → Grows k next next' G G'
+    → (t : Ticket) (key : ℕ) (o : Option Shown) → ReadRight k G next t key o → ReadRight k G' next' t key o
 read_grows {k} {next} {next'} {G} {G'} up t key o r = record {
   found = r.found;
   is = r.is;
   issued = le_trans r.issued up.more;
-  best = subst (λ (m : PerSite). Best k G'.log m key r.found) (sym (up.same_cut t.serial r.issued)) (up.best t.serial r.issued key r.found r.best);
+  best = subst (λ (m : PerSite). Best k G'.log m key r.found) (sym (up.same_cut t.serial r.issued))
+      (up.best t.serial r.issued key r.found r.best);
 }
 
 -- The invariant is kept by a call that tells t and leaves g'.
@@ -99,14 +105,26 @@ module _ {k : Kind} {sites : ℕ} {h : History} {g : GroupState} {G : Ghost} (v 
 
   -- a call that tells nothing, and changes servers only
   pub servers_kept : (server : ℕ → ℕ → ServerState) → ((s n : ℕ) → ServerFrame g.sites s (server s n)) →
-      Core k (shape g v.frame.layout.few_sites v.frame.layout.some_partitions) (HasInPast h) (tables k (with_servers g server)) G → Kept k sites h g G nothing (with_servers g server)
+      Core k (shape g v.frame.layout.few_sites v.frame.layout.some_partitions) (HasInPast h)
+      (tables k (with_servers g server)) G → Kept k sites h g G nothing (with_servers g server)
   servers_kept server frames core = record {
     ghost = G;
     inv = record {
-      frame = record { layout = v.frame.layout; servers = frames; sessions = v.frame.sessions; seats = v.frame.seats; serials = v.frame.serials };
+      frame = record {
+        layout = v.frame.layout;
+        servers = frames;
+        sessions = v.frame.sessions;
+        seats = v.frame.seats;
+        serials = v.frame.serials;
+      };
       layout = v.layout;
       core = core;
-      hist = record { opened_known = v.hist.opened_known; sites_known = v.hist.sites_known; readers_known = v.hist.readers_known; open_known = v.hist.open_known };
+      hist = record {
+        opened_known = v.hist.opened_known;
+        sites_known = v.hist.sites_known;
+        readers_known = v.hist.readers_known;
+        open_known = v.hist.open_known;
+      };
       reads = λ t key o i. ⊎_elim (λ e. absurd (not_nothing t key o e)) (v.reads t key o) i;
       written = v.written;
       logged = v.logged;

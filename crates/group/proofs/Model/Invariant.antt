@@ -91,8 +91,10 @@ pub record LogInv (k : Kind) (L : Shape) (received : ℕ → ℕ → PerSite) (l
 
 -- What is under way: it comes in rising stamps, and a version of the log has arrived at a site or is under way to it.
 pub record QueueInv (L : Shape) (received : ℕ → ℕ → PerSite) (waits : ℕ → ℕ → ℕ → List Entry) (log : List Version) : Type 0 where
-  pub chain : (j s n : ℕ) → j < L.sites → s < L.sites → (s ≡ j → ⊥) → Chain (at (received s n) j) (waits j n s) (last received j n)
-  pub pending : (v : Version) (j s n : ℕ) → j < L.sites → s < L.sites → (s ≡ j → ⊥) → InList (Update v) (waits j n s) → InList v log × (v.source ≡ j) × (part L v.key ≡ n)
+  pub chain : (j s n : ℕ) → j < L.sites → s < L.sites → (s ≡ j → ⊥)
+      → Chain (at (received s n) j) (waits j n s) (last received j n)
+  pub pending : (v : Version) (j s n : ℕ) → j < L.sites → s < L.sites → (s ≡ j → ⊥) → InList (Update v) (waits j n s)
+      → InList v log × (v.source ≡ j) × (part L v.key ≡ n)
   pub reach : (v : Version) (s : ℕ) → InList v log → s < L.sites → (s ≡ v.source → ⊥) →
       Had L received s v ⊎ InList (Update v) (waits v.source (part L v.key) s)
 
@@ -104,9 +106,11 @@ pub record StandsIn (k : Kind) (vs : List Version) (safe : PerSite) (v : Version
   pub how : (other ≡ v) ⊎ (IsLater (name_of other) (name_of v) × Covers safe (full_mark k other))
 
 -- What is held was had, and what was had is held or stood in for.
-pub record HeldInv (k : Kind) (L : Shape) (received : ℕ → ℕ → PerSite) (held : ℕ → ℕ → List Version) (safe : ℕ → PerSite) (log : List Version) : Type 0 where
+pub record HeldInv (k : Kind) (L : Shape) (received : ℕ → ℕ → PerSite) (held : ℕ → ℕ → List Version)
+    (safe : ℕ → PerSite) (log : List Version) : Type 0 where
   pub had : (v : Version) (s n : ℕ) → InList v (held s n) → InList v log × (part L v.key ≡ n) × Had L received s v
-  pub kept : (v : Version) (s : ℕ) → s < L.sites → InList v log → Had L received s v → StandsIn k (held s (part L v.key)) (safe s) v
+  pub kept : (v : Version) (s : ℕ) → s < L.sites → InList v log → Had L received s v
+      → StandsIn k (held s (part L v.key)) (safe s) v
 
 -- The marks of the servers: marks of the kind, and below what was received.
 pub record ServerMarks (k : Kind) (L : Shape) (received reported stable : ℕ → ℕ → PerSite) : Type 0 where
@@ -124,7 +128,8 @@ pub record SessionInv (k : Kind) (L : Shape) (received : ℕ → ℕ → PerSite
   pub knows_below : Below L received x.site x.knows
 
 -- An open snapshot
-pub record SeatInv (opened : ℕ) (session : ℕ → SessionState) (next : ℕ) (cut_of : ℕ → PerSite) (snap_site : ℕ → ℕ) (y : SeatState) : Type 0 where
+pub record SeatInv (opened : ℕ) (session : ℕ → SessionState) (next : ℕ) (cut_of : ℕ → PerSite) (snap_site : ℕ → ℕ)
+    (y : SeatState) : Type 0 where
   pub known : y.session < opened
   pub covered : Covers (session y.session).knows y.cut
   pub issued : y.serial < next
@@ -132,13 +137,15 @@ pub record SeatInv (opened : ℕ) (session : ℕ → SessionState) (next : ℕ) 
   pub its_site : (session y.session).site ≡ snap_site y.serial
 
 -- Every snapshot ever opened, closed since or not
-pub record CutInv (k : Kind) (L : Shape) (received : ℕ → ℕ → PerSite) (next : ℕ) (cut_of : ℕ → PerSite) (snap_site : ℕ → ℕ) : Type 0 where
+pub record CutInv (k : Kind) (L : Shape) (received : ℕ → ℕ → PerSite) (next : ℕ) (cut_of : ℕ → PerSite)
+    (snap_site : ℕ → ℕ) : Type 0 where
   pub cut_mark : (q : ℕ) → q < next → IsMark k (cut_of q)
   pub cut_below : (q : ℕ) → q < next → Below L received (snap_site q) (cut_of q)
   pub cut_site : (q : ℕ) → q < next → snap_site q < L.sites
 
 -- Put p was made; `mark` covers its full mark; site s had it, and it is its own or `clear` covers its full mark.
-pub record Reached (k : Kind) (L : Shape) (received : ℕ → ℕ → PerSite) (log : List Version) (s : ℕ) (mark clear : PerSite) (p : Put) : Type 0 where
+pub record Reached (k : Kind) (L : Shape) (received : ℕ → ℕ → PerSite) (log : List Version) (s : ℕ)
+    (mark clear : PerSite) (p : Put) : Type 0 where
   pub version : Version
   pub logged : InList version log
   pub named : name_of version ≡ p
@@ -153,9 +160,11 @@ pub record Before (k : Kind) (L : Shape) (received stable : ℕ → ℕ → PerS
   pub named : name_of writer ≡ u
   pub reached : Reached k L received log writer.source writer.mark (stable writer.source (part L writer.key)) p
 
-pub record PastInv (k : Kind) (L : Shape) (P : Pasts) (received stable : ℕ → ℕ → PerSite) (opened : ℕ) (session : ℕ → SessionState) (log : List Version) : Type 0 where
+pub record PastInv (k : Kind) (L : Shape) (P : Pasts) (received stable : ℕ → ℕ → PerSite) (opened : ℕ)
+    (session : ℕ → SessionState) (log : List Version) : Type 0 where
   pub open_only : (i : ℕ) (p : Put) → P (of_session i) p → i < opened
-  pub of_session_lem : (i : ℕ) (p : Put) → P (of_session i) p → Reached k L received log (session i).site (session i).depends (session i).knows p
+  pub of_session_lem : (i : ℕ) (p : Put) → P (of_session i) p
+      → Reached k L received log (session i).site (session i).depends (session i).knows p
   pub of_put_lem : (u p : Put) → P (of_put u) p → Before k L received stable log u p
 
 -- All of the above, for pasts P.

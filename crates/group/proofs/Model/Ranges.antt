@@ -35,10 +35,14 @@ percent_in_range (Err why) = tt
 made_in_range : (kind amount : ℕ) → MadeInRange (value_from kind amount)
 made_in_range kind amount =
     cond_both {A = Result Value Refusal} (eqb kind 0 && eqb amount 0) (Ok Gone) _ MadeInRange (λ _. tt)
-    (λ _. cond_both {A = Result Value Refusal} (eqb kind 1 && ltb amount (2 ^ 32)) (Ok (Price amount)) _ MadeInRange (λ e. ltb-true amount (2 ^ 32) (and_parts (eqb kind 1) (ltb amount (2 ^ 32)) e).1)
-    (λ _. cond_both {A = Result Value Refusal} (eqb kind 2) (result_map_both Percent (λ why. why) (checked_percent amount)) _ MadeInRange (λ _. percent_in_range (checked_percent amount))
+    (λ _. cond_both {A = Result Value Refusal} (eqb kind 1 && ltb amount (2 ^ 32)) (Ok (Price amount)) _ MadeInRange
+    (λ e. ltb-true amount (2 ^ 32) (and_parts (eqb kind 1) (ltb amount (2 ^ 32)) e).1)
+    (λ _. cond_both {A = Result Value Refusal} (eqb kind 2)
+    (result_map_both Percent (λ why. why) (checked_percent amount)) _ MadeInRange
+    (λ _. percent_in_range (checked_percent amount))
     (λ _. cond_both {A = Result Value Refusal} (eqb kind 3 && eqb amount 0) (Ok (Basis Part)) _ MadeInRange (λ _. tt)
-    (λ _. cond_both {A = Result Value Refusal} (eqb kind 3 && eqb amount 1) (Ok (Basis Sheet)) (Err Unlawful) MadeInRange (λ _. tt) (λ _. tt)))))
+    (λ _. cond_both {A = Result Value Refusal} (eqb kind 3 && eqb amount 1) (Ok (Basis Sheet)) (Err Unlawful)
+    MadeInRange (λ _. tt) (λ _. tt)))))
 
 -- what was put is in range
 put_in_range : (h : History) (p : Put) (x : Value) → WasPut h p x → IsInRange x
@@ -50,10 +54,16 @@ put_in_range (other ∷ h) p x w = put_in_range h p x w
 module _ {k : Kind} {sites : ℕ} {h : History} {g : GroupState} {G : Ghost} (v : Inv k sites h g G) where
   logged_bounded : (w : Version) → InList w G.log → IsVersionBounded k g.sites w
   logged_bounded w l =
-      record { value = put_in_range h _ w.value (v.written w l); stamp = v.core.logs.small w l; source = v.core.logs.source w l; mark = v.core.logs.marked w l }
+      record {
+        value = put_in_range h _ w.value (v.written w l);
+        stamp = v.core.logs.small w l;
+        source = v.core.logs.source w l;
+        mark = v.core.logs.marked w l;
+      }
 
   -- an entry under way is no later than its server's last stamp
-  entry_bounded : (s n site : ℕ) → s < g.sites → site < g.sites → (site ≡ s → ⊥) → (e : Entry) → InList e ((g.server s n).waiting site) → IsEntryBounded k g.sites e
+  entry_bounded : (s n site : ℕ) → s < g.sites → site < g.sites → (site ≡ s → ⊥) → (e : Entry)
+      → InList e ((g.server s n).waiting site) → IsEntryBounded k g.sites e
   entry_bounded s n site ls lt apart (Update w) i = logged_bounded w (v.core.queues.pending w s site n ls lt apart i).0
   entry_bounded s n site ls lt apart (Heartbeat stamp) i =
       let low = chain_below _ _ ((g.server s n).waiting site) (Heartbeat stamp) (v.core.queues.chain s site n ls lt apart) i in
@@ -76,6 +86,11 @@ module _ {k : Kind} {sites : ℕ} {h : History} {g : GroupState} {G : Ghost} (v 
     few_sessions = v.frame.sessions;
     sessions = λ i l. let x = v.core.sessions i l in record { site = x.inside; depends = x.depends_mark; knows = x.knows_mark };
     four_seats = v.frame.seats;
-    seats = λ a y e. let o = v.core.seats a y e in record { session = o.known; serial = o.issued; cut = subst (IsMark k) (sym o.its_cut) (v.core.cuts.cut_mark y.serial o.issued) };
+    seats = λ a y e. let o = v.core.seats a y e in
+        record {
+          session = o.known;
+          serial = o.issued;
+          cut = subst (IsMark k) (sym o.its_cut) (v.core.cuts.cut_mark y.serial o.issued);
+        };
     serials = v.frame.serials;
   }

@@ -98,7 +98,9 @@ module _ {k : Kind} (law : IsLawfulKind k) where
   full_mark_lem v m = covers_trans (join_left (k.floor v.mark) (k.lift v.source v.stamp)) (floor_over m)
 
   -- what covers a full mark has at least the version's stamp at its source
-  pub full_stamp : (v : Version) (m : PerSite) → v.source < 4 → v.stamp < 2 ^ 63 → Covers m (full_mark k v) → v.stamp ≤ at m v.source
+  pub full_stamp : (v : Version) (m : PerSite) → v.source < 4 → v.stamp < 2 ^ 63 → Covers m (full_mark k v)
+      → v.stamp ≤ at m v.source
   full_stamp v m l h c =
-      let low = covers_at m (k.lift v.source v.stamp) v.source (covers_trans c (join_right (k.floor v.mark) (k.lift v.source v.stamp))) in
+      let low = covers_at m (k.lift v.source v.stamp) v.source
+      (covers_trans c (join_right (k.floor v.mark) (k.lift v.source v.stamp))) in
       le_trans (law.lift_reaches v.source v.stamp l h) low

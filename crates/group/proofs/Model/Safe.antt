@@ -1,5 +1,6 @@
 -- The safe mark of tidying: below every stable mark and every open cut of its site, and it never falls.
-use Rattle.std.proofs.Common.{◌≡◌, ℕ, suc, ◌<◌, Bool, true, false, cond, eqb, List, [], ◌∷◌, ◌++◌, get_or, Some, None, Option, sym, refl, ap, ◌∙◌, subst, inl, inr, ⊎_elim}
+use Rattle.std.proofs.Common.{◌≡◌, ℕ, suc, ◌<◌, Bool, true, false, cond, eqb, List, [], ◌∷◌, ◌++◌, get_or, Some, None}
+use Rattle.std.proofs.Common.{Option, sym, refl, ap, ◌∙◌, subst, inl, inr, ⊎_elim}
 use Rattle.std.proofs.lemmas.Bool.{eq-eqb, eqb-true, both_ways}
 use Rattle.stamps.specs.Rows.{PerSite, HasStamps, Covers}
 use Rattle.stamps.specs.Kinds.{Kind, IsMark, IsLawfulKind}
@@ -16,7 +17,8 @@ safe_rows g s = stable_at g s ++ cuts_at g s
 
 -- ---- which cuts are open at a site
 
-pub cut_in : (g : GroupState) (s : ℕ) (ys : List (Option SeatState)) (a : ℕ) (y : SeatState) → get_or ys a None ≡ Some y → (session_at g y.session).site ≡ s → InList y.cut (cuts_of g s ys)
+pub cut_in : (g : GroupState) (s : ℕ) (ys : List (Option SeatState)) (a : ℕ) (y : SeatState) → get_or ys a None ≡ Some y
+    → (session_at g y.session).site ≡ s → InList y.cut (cuts_of g s ys)
 cut_in g s [] a y e at_s = absurd (not_some e)
 cut_in g s (None ∷ ys) ℕ.zero y e at_s = absurd (not_some e)
 cut_in g s (None ∷ ys) (suc a) y e at_s = cut_in g s ys a y e at_s
@@ -42,7 +44,8 @@ pub record CutOf (g : GroupState) (s : ℕ) (ys : List (Option SeatState)) (x : 
   pub at_site : (session_at g seat.session).site ≡ s
   pub is : x ≡ seat.cut
 
-further : {g : GroupState} {s : ℕ} {ys : List (Option SeatState)} {x : PerSite} (o : Option SeatState) → CutOf g s ys x → CutOf g s (o ∷ ys) x
+further : {g : GroupState} {s : ℕ} {ys : List (Option SeatState)} {x : PerSite} (o : Option SeatState) → CutOf g s ys x
+    → CutOf g s (o ∷ ys) x
 further o c = record { place = suc c.place; seat = c.seat; there = c.there; at_site = c.at_site; is = c.is }
 
 pub in_cuts : (g : GroupState) (s : ℕ) (ys : List (Option SeatState)) (x : PerSite) → InList x (cuts_of g s ys) → CutOf g s ys x
@@ -50,14 +53,17 @@ in_cuts g s [] x h = absurd h
 in_cuts g s (None ∷ ys) x h = further None (in_cuts g s ys x h)
 in_cuts g s (Some z ∷ ys) x h = go (eqb (session_at g z.session).site s) refl h (in_cuts g s ys x)
   where
-    go : (b : Bool) → eqb (session_at g z.session).site s ≡ b → InList x (cond b (z.cut ∷ cuts_of g s ys) (cuts_of g s ys)) → (InList x (cuts_of g s ys) → CutOf g s ys x) → CutOf g s (Some z ∷ ys) x
+    go : (b : Bool) → eqb (session_at g z.session).site s ≡ b
+        → InList x (cond b (z.cut ∷ cuts_of g s ys) (cuts_of g s ys)) → (InList x (cuts_of g s ys) → CutOf g s ys x)
+        → CutOf g s (Some z ∷ ys) x
     go true t (inl e) rec = record { place = 0; seat = z; there = refl; at_site = eqb-true _ _ t; is = e }
     go true t (inr i) rec = further (Some z) (rec i)
     go false t i rec = further (Some z) (rec i)
 
 -- ---- the safe mark
 
-pub rows_stamps : (g : GroupState) (s : ℕ) → ((n : ℕ) → HasStamps (g.server s n).marks.stable) → ((a : ℕ) (y : SeatState) → seat_at g a ≡ Some y → HasStamps y.cut) → AllStamps (safe_rows g s)
+pub rows_stamps : (g : GroupState) (s : ℕ) → ((n : ℕ) → HasStamps (g.server s n).marks.stable)
+    → ((a : ℕ) (y : SeatState) → seat_at g a ≡ Some y → HasStamps y.cut) → AllStamps (safe_rows g s)
 rows_stamps g s st cut x i = ⊎_elim
     (λ j. let r = first_in (λ n. (g.server s n).marks.stable) g.partitions x j in subst HasStamps (sym r.2) (st r.0))
     (λ j. let c = in_cuts g s g.seats x j in subst HasStamps (sym c.is) (cut c.place c.seat c.there))
@@ -68,16 +74,23 @@ module _ {k : Kind} (law : IsLawfulKind k) (g : GroupState) (s : ℕ) (st : AllS
   safe_mark_lem = common_mark law (safe_rows g s) st
 
   pub safe_stable : (n : ℕ) → n < g.partitions → Covers (g.server s n).marks.stable (safe_mark k g s)
-  safe_stable n l = common_below law (safe_rows g s) st _ (in_left _ (stable_at g s) (cuts_at g s) (in_first (λ m. (g.server s m).marks.stable) g.partitions n l))
+  safe_stable n l = common_below law (safe_rows g s) st _
+      (in_left _ (stable_at g s) (cuts_at g s) (in_first (λ m. (g.server s m).marks.stable) g.partitions n l))
 
-  pub safe_cut : (a : ℕ) (y : SeatState) → seat_at g a ≡ Some y → (session_at g y.session).site ≡ s → Covers y.cut (safe_mark k g s)
-  safe_cut a y e at_s = common_below law (safe_rows g s) st y.cut (in_right y.cut (stable_at g s) (cuts_at g s) (cut_in g s g.seats a y e at_s))
+  pub safe_cut : (a : ℕ) (y : SeatState) → seat_at g a ≡ Some y → (session_at g y.session).site ≡ s
+      → Covers y.cut (safe_mark k g s)
+  safe_cut a y e at_s = common_below law (safe_rows g s) st y.cut
+      (in_right y.cut (stable_at g s) (cuts_at g s) (cut_in g s g.seats a y e at_s))
 
 -- it covers every mark that the stable marks and the open cuts cover
-pub safe_covers : {k : Kind} (law : IsLawfulKind k) (g : GroupState) (s : ℕ) → AllStamps (safe_rows g s) → (m : PerSite) → IsMark k m →
+pub safe_covers : {k : Kind} (law : IsLawfulKind k) (g : GroupState) (s : ℕ) → AllStamps (safe_rows g s) → (m : PerSite)
+    → IsMark k m →
     ((n : ℕ) → n < g.partitions → Covers (g.server s n).marks.stable m) →
-    ((a : ℕ) (y : SeatState) → seat_at g a ≡ Some y → (session_at g y.session).site ≡ s → Covers y.cut m) → Covers (safe_mark k g s) m
+    ((a : ℕ) (y : SeatState) → seat_at g a ≡ Some y → (session_at g y.session).site ≡ s → Covers y.cut m)
+    → Covers (safe_mark k g s) m
 safe_covers law g s st m mk stables cuts = common_greatest law (safe_rows g s) st m mk (λ x i. ⊎_elim
-    (λ j. let r = first_in (λ n. (g.server s n).marks.stable) g.partitions x j in subst (λ (z : PerSite). Covers z m) (sym r.2) (stables r.0 r.1))
-    (λ j. let c = in_cuts g s g.seats x j in subst (λ (z : PerSite). Covers z m) (sym c.is) (cuts c.place c.seat c.there c.at_site))
+    (λ j. let r = first_in (λ n. (g.server s n).marks.stable) g.partitions x j in
+    subst (λ (z : PerSite). Covers z m) (sym r.2) (stables r.0 r.1))
+    (λ j. let c = in_cuts g s g.seats x j in
+    subst (λ (z : PerSite). Covers z m) (sym c.is) (cuts c.place c.seat c.there c.at_site))
     (in_either x (stable_at g s) (cuts_at g s) i))

@@ -25,7 +25,9 @@ module _ {k : Kind} {L : Shape} {P : Pasts} {T : Tables} {G : Ghost} (h : Core k
     holds = h.holds;
     marks = h.marks;
     sessions = h.sessions;
-    seats = λ b y. set1_cases T.seat a None b (λ z. z ≡ Some y → SeatInv T.opened T.session T.next G.cut_of G.snap_site y) (λ _ e. absurd (not_some e)) (λ _. h.seats b y);
+    seats = λ b y. set1_cases T.seat a None b
+        (λ z. z ≡ Some y → SeatInv T.opened T.session T.next G.cut_of G.snap_site y) (λ _ e. absurd (not_some e))
+        (λ _. h.seats b y);
     cuts = h.cuts;
     pasts = h.pasts;
   }
@@ -35,8 +37,10 @@ module _ {k : Kind} {L : Shape} {P : Pasts} {T : Tables} {G : Ghost} (h : Core k
   remembered q m s = record { log = G.log; cut_of = set1 G.cut_of q m; snap_site = set1 G.snap_site q s }
 
   -- session i opens a snapshot of cut m, which it knows
-  pub seated : (i a : ℕ) (m : PerSite) → i < T.opened → Covers (T.session i).knows m → IsMark k m → Below L T.received (T.session i).site m →
-      Core k L P (with_seats T (set1 T.seat a (Some (record { session = i; serial = T.next; cut = m }))) (suc T.next)) (remembered T.next m (T.session i).site)
+  pub seated : (i a : ℕ) (m : PerSite) → i < T.opened → Covers (T.session i).knows m → IsMark k m
+      → Below L T.received (T.session i).site m →
+      Core k L P (with_seats T (set1 T.seat a (Some (record { session = i; serial = T.next; cut = m }))) (suc T.next))
+      (remembered T.next m (T.session i).site)
   seated i a m l kn mk b = record {
     logs = h.logs;
     queues = h.queues;
@@ -65,7 +69,14 @@ module _ {k : Kind} {L : Shape} {P : Pasts} {T : Tables} {G : Ghost} (h : Core k
       Fits z = SeatInv T.opened T.session (suc T.next) cut' site' z
 
       new : Fits y
-      new = record { known = l; covered = kn; issued = le_refl (suc T.next); its_cut = sym (set1_here G.cut_of T.next m); its_site = sym (set1_here G.snap_site T.next (T.session i).site) }
+      new = record {
+        known = l;
+        covered = kn;
+        issued = le_refl (suc T.next);
+        its_cut = sym (set1_here G.cut_of T.next m);
+        its_site =
+            sym (set1_here G.snap_site T.next (T.session i).site);
+      }
 
       seat' : (c : ℕ) (z : SeatState) → set1 T.seat a (Some y) c ≡ Some z → Fits z
       seat' c z = set1_cases T.seat a (Some y) c (λ o. o ≡ Some z → Fits z)
@@ -82,20 +93,27 @@ module _ {k : Kind} {L : Shape} {P : Pasts} {T : Tables} {G : Ghost} (h : Core k
             its_site = o.its_site ∙ sym (set1_other G.snap_site T.next (T.session i).site z.serial older);
           })
 
-      at_q : (q : ℕ) → q < suc T.next → (Q : ℕ → PerSite → Type 0) → Q (T.session i).site m → (q < T.next → Q (G.snap_site q) (G.cut_of q)) → Q (site' q) (cut' q)
+      at_q : (q : ℕ) → q < suc T.next → (Q : ℕ → PerSite → Type 0) → Q (T.session i).site m
+          → (q < T.next → Q (G.snap_site q) (G.cut_of q)) → Q (site' q) (cut' q)
       at_q q lq Q here old = set1_cases G.snap_site T.next (T.session i).site q (λ s. Q s (cut' q))
           (λ e. set1_cases G.cut_of T.next m q (λ c. Q (T.session i).site c) (λ _. here) (λ ne. absurd (ne e)))
           (λ ne. set1_cases G.cut_of T.next m q (λ c. Q (G.snap_site q) c) (λ e. absurd (ne e)) (λ _. old (omega arith)))
 
   -- a session is opened at site s
-  pub enrolled : IsLawfulKind k → (s : ℕ) → s < L.sites → Core k L P (with_sessions T (suc T.opened) (set1 T.session T.opened (new_session s))) G
+  pub enrolled : IsLawfulKind k → (s : ℕ) → s < L.sites
+      → Core k L P (with_sessions T (suc T.opened) (set1 T.session T.opened (new_session s))) G
   enrolled law s ls = record {
     logs = h.logs;
     queues = h.queues;
     holds = h.holds;
     marks = h.marks;
     sessions = λ i l. set1_cases T.session T.opened (new_session s) i (SessionInv k L T.received)
-        (λ _. record { inside = ls; depends_mark = zero_mark law; knows_mark = zero_mark law; knows_below = λ n ln. covers_zero (T.received s n) })
+        (λ _. record {
+          inside = ls;
+          depends_mark = zero_mark law;
+          knows_mark = zero_mark law;
+          knows_below = λ n ln. covers_zero (T.received s n);
+        })
         (λ ne. h.sessions i (omega arith));
     seats = λ a y e.
         let o = h.seats a y e in
@@ -109,12 +127,18 @@ module _ {k : Kind} {L : Shape} {P : Pasts} {T : Tables} {G : Ghost} (h : Core k
           its_site = ap (λ (x : SessionState). x.site) old ∙ o.its_site;
         };
     cuts = h.cuts;
-    pasts = record { open_only = λ i p q. let l = h.pasts.open_only i p q in omega arith; of_session_lem = sess; of_put_lem = h.pasts.of_put_lem };
+    pasts = record {
+      open_only = λ i p q. let l = h.pasts.open_only i p q in omega arith;
+      of_session_lem = sess;
+      of_put_lem = h.pasts.of_put_lem;
+    };
   }
     where
       sess : (i : ℕ) (p : Put) → P (of_session i) p →
-          Reached k L T.received G.log (set1 T.session T.opened (new_session s) i).site (set1 T.session T.opened (new_session s) i).depends (set1 T.session T.opened (new_session s) i).knows p
+          Reached k L T.received G.log (set1 T.session T.opened (new_session s) i).site
+          (set1 T.session T.opened (new_session s) i).depends (set1 T.session T.opened (new_session s) i).knows p
       sess i p q =
           let l = h.pasts.open_only i p q in
           let old = set1_other T.session T.opened (new_session s) i (λ d. omega arith) in
-          subst (λ (x : SessionState). Reached k L T.received G.log x.site x.depends x.knows p) (sym old) (h.pasts.of_session_lem i p q)
+          subst (λ (x : SessionState). Reached k L T.received G.log x.site x.depends x.knows p) (sym old)
+          (h.pasts.of_session_lem i p q)

@@ -34,10 +34,12 @@ same_time p q a b =
 abbrev pub Best : Kind → List Version → PerSite → ℕ → Option Version → Type 0
 Best k log m key None = (v : Version) → InList v log → v.key ≡ key → Covers m (full_mark k v) → ⊥
 Best k log m key (Some w) =
-    InList w log × (w.key ≡ key) × Covers m (full_mark k w) × ((v : Version) → InList v log → v.key ≡ key → Covers m (full_mark k v) → IsAsLate (name_of w) (name_of v))
+    InList w log × (w.key ≡ key) × Covers m (full_mark k w)
+    × ((v : Version) → InList v log → v.key ≡ key → Covers m (full_mark k v) → IsAsLate (name_of w) (name_of v))
 
 -- the log has one latest version
-pub best_same : (k : Kind) (log : List Version) (m : PerSite) (key : ℕ) → ((v w : Version) → InList v log → InList w log → name_of v ≡ name_of w → v ≡ w) →
+pub best_same : (k : Kind) (log : List Version) (m : PerSite) (key : ℕ)
+    → ((v w : Version) → InList v log → InList w log → name_of v ≡ name_of w → v ≡ w) →
     (o p : Option Version) → Best k log m key o → Best k log m key p → o ≡ p
 best_same k log m key unique None None b c = refl
 best_same k log m key unique None (Some w) b c = absurd (b w c.0 c.1 c.2)
@@ -48,14 +50,17 @@ best_same k log m key unique (Some v) (Some w) b c =
     ap Some (unique v w b.0 c.0 (λ i. record { key = e i; stamp = t.0 i; source = t.1 i }))
 
 -- a version and what stands in for it
-pub stands_late : {k : Kind} {vs : List Version} {safe : PerSite} {v : Version} (x : StandsIn k vs safe v) → IsAsLate (name_of x.other) (name_of v)
+pub stands_late : {k : Kind} {vs : List Version} {safe : PerSite} {v : Version} (x : StandsIn k vs safe v)
+    → IsAsLate (name_of x.other) (name_of v)
 stands_late {k} {vs} {safe} {v} x = go x.how
   where
-    go : (x.other ≡ v) ⊎ (IsLater (name_of x.other) (name_of v) × Covers safe (full_mark k x.other)) → IsAsLate (name_of x.other) (name_of v)
+    go : (x.other ≡ v) ⊎ (IsLater (name_of x.other) (name_of v) × Covers safe (full_mark k x.other))
+        → IsAsLate (name_of x.other) (name_of v)
     go (inl e) = subst (λ (u : Version). IsAsLate (name_of u) (name_of v)) (sym e) (as_late_self (name_of v))
     go (inr (l, _)) = later_as_late (name_of x.other) (name_of v) l
 
-module _ {k : Kind} (law : IsLawfulKind k) (L : Shape) {P : Pasts} {T : Tables} {G : Ghost} (h : Core k L P T G) (m : PerSite) (s key : ℕ)
+module _ {k : Kind} (law : IsLawfulKind k) (L : Shape) {P : Pasts} {T : Tables} {G : Ghost} (h : Core k L P T G)
+    (m : PerSite) (s key : ℕ)
     (ls : s < L.sites) (b : Below L T.received s m) (over : Covers m (T.safe s)) where
   -- whatever the cut covers is held, or a later one that the cut covers is
   cut_holds : (v : Version) → InList v G.log → v.key ≡ key → Covers m (full_mark k v) →
@@ -70,7 +75,8 @@ module _ {k : Kind} (law : IsLawfulKind k) (L : Shape) {P : Pasts} {T : Tables} 
       x : StandsIn k (T.held s (part L v.key)) (T.safe s) v
       x = h.holds.kept v s ls i (had_below law L T.received s m v (h.logs.source v i) (h.logs.small v i) b c)
 
-      cov : (x.other ≡ v) ⊎ (IsLater (name_of x.other) (name_of v) × Covers (T.safe s) (full_mark k x.other)) → Covers m (full_mark k x.other)
+      cov : (x.other ≡ v) ⊎ (IsLater (name_of x.other) (name_of v) × Covers (T.safe s) (full_mark k x.other))
+          → Covers m (full_mark k x.other)
       cov (inl same) = subst (λ (u : Version). Covers m (full_mark k u)) (sym same) c
       cov (inr (_, d)) = covers_trans over d
 
@@ -80,5 +86,6 @@ module _ {k : Kind} (law : IsLawfulKind k) (L : Shape) {P : Pasts} {T : Tables} 
     (h.holds.had u s (part L key) (in_list (T.held s (part L key)) u best.0)).0,
     best.1.0,
     covers_true m (full_mark k u) best.1.1,
-    λ v i e c. let w = cut_holds v i e c in as_late_trans (name_of u) (name_of w.0) (name_of v) (best.2 w.0 (contained (T.held s (part L key)) w.0 w.1) w.2) w.3,
+    λ v i e c. let w = cut_holds v i e c in as_late_trans (name_of u) (name_of w.0) (name_of v)
+        (best.2 w.0 (contained (T.held s (part L key)) w.0 w.1) w.2) w.3,
   )

@@ -25,10 +25,18 @@ module _ (k : Kind) (vs : List Version) (safe : PerSite) where
   tidy_stands : (v : Version) → StandsIn k vs safe v → StandsIn k (versions_kept k safe vs) safe v
   tidy_stands v x = ⊎_elim
       (λ i. record { other = x.other; there = in_list (versions_kept k safe vs) x.other i; same_key = x.same_key; how = x.how })
-      (λ d. record { other = d.0; there = in_list (versions_kept k safe vs) d.0 d.1; same_key = d.2 ∙ x.same_key; how = inr (later d.0 d.4 x.how, covers_true safe (full_mark k d.0) d.3) })
+      (λ d. record {
+        other = d.0;
+        there = in_list (versions_kept k safe vs) d.0 d.1;
+        same_key = d.2
+            ∙ x.same_key;
+        how = inr (later d.0 d.4 x.how, covers_true safe (full_mark k d.0) d.3);
+      })
       (law.drops x.other (contained vs x.other x.there))
     where
-      later : (w : Version) → IsLater (name_of w) (name_of x.other) → (x.other ≡ v) ⊎ (IsLater (name_of x.other) (name_of v) × Covers safe (full_mark k x.other)) → IsLater (name_of w) (name_of v)
+      later : (w : Version) → IsLater (name_of w) (name_of x.other)
+          → (x.other ≡ v) ⊎ (IsLater (name_of x.other) (name_of v) × Covers safe (full_mark k x.other))
+          → IsLater (name_of w) (name_of v)
       later w l (inl e) = subst (λ (u : Version). IsLater (name_of w) (name_of u)) e l
       later w l (inr (m, _)) = later_later (name_of w) (name_of x.other) (name_of v) l m
 
@@ -49,14 +57,19 @@ tidied_too {k = k} {L = L} {T = T} {G = G} s n h = record {
     new : List Version
     new = versions_kept k (T.safe s) (T.held s n)
 
-    had' : (v : Version) (s' n' : ℕ) → InList v (set2 T.held s n new s' n') → InList v G.log × (part L v.key ≡ n') × Had L T.received s' v
-    had' v s' n' = set2_cases T.held s n new s' n' (λ vs. InList v vs → InList v G.log × (part L v.key ≡ n') × Had L T.received s' v)
-        (λ a b i. h.holds.had v s' n' (rw (a, b) (in_list (T.held s n) v ((tidied_law k (T.safe s) (T.held s n)).held v (contained new v i)))))
+    had' : (v : Version) (s' n' : ℕ) → InList v (set2 T.held s n new s' n')
+        → InList v G.log × (part L v.key ≡ n') × Had L T.received s' v
+    had' v s' n' = set2_cases T.held s n new s' n'
+        (λ vs. InList v vs → InList v G.log × (part L v.key ≡ n') × Had L T.received s' v)
+        (λ a b i. h.holds.had v s' n' (rw (a, b)
+        (in_list (T.held s n) v ((tidied_law k (T.safe s) (T.held s n)).held v (contained new v i)))))
         (λ _ i. h.holds.had v s' n' i)
 
-    kept' : (v : Version) (s' : ℕ) → s' < L.sites → InList v G.log → Had L T.received s' v → StandsIn k (set2 T.held s n new s' (part L v.key)) (T.safe s') v
+    kept' : (v : Version) (s' : ℕ) → s' < L.sites → InList v G.log → Had L T.received s' v
+        → StandsIn k (set2 T.held s n new s' (part L v.key)) (T.safe s') v
     kept' v s' l i hd = set2_cases T.held s n new s' (part L v.key) (λ vs. StandsIn k vs (T.safe s') v)
         (λ a b. subst (λ (x : ℕ). StandsIn k new (T.safe x) v) (sym a)
         (tidy_stands k (T.held s n) (T.safe s) v
-        (subst (λ (x : ℕ). StandsIn k (T.held s x) (T.safe s) v) b (subst (λ (x : ℕ). StandsIn k (T.held x (part L v.key)) (T.safe x) v) a (h.holds.kept v s' l i hd)))))
+        (subst (λ (x : ℕ). StandsIn k (T.held s x) (T.safe s) v) b
+        (subst (λ (x : ℕ). StandsIn k (T.held x (part L v.key)) (T.safe x) v) a (h.holds.kept v s' l i hd)))))
         (λ _. h.holds.kept v s' l i hd)

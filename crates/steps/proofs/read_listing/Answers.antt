@@ -6,7 +6,8 @@ use Rattle.steps.proofs.read_listing.Goals as goal
 
 pub returns-clause-value : goal.returns-clause-value
 returns-clause-value g c =
-    listing_read (g.R.Read.remaining c.args.reader.now) c.in_ok-script.script.items c.in_ok-list.field-0.items c.in_ok-script.ensures
+    listing_read (g.R.Read.remaining c.args.reader.now) c.in_ok-script.script.items c.in_ok-list.field-0.items
+    c.in_ok-script.ensures
     (c.in_ok-list.ensures.value ∙ ap listing c.deref.ensures.value)
 
 pub returns-clause-law : goal.returns-clause-law

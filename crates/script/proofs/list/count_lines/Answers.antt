@@ -15,16 +15,19 @@ pub lines-preserved : goal.lines-preserved
 lines-preserved c =
     let rest = c.rest_after-rest.result.now in
     let some_group = lt-ltb 0 (c.lines.count + 1) (omega arith) in
-    let turn = count_turn (nat_lt 0 c.lines.count) c.lines.rest.now c.rest_after-rest.result.now (omega arith) c.rest_after-rest.ensures.left in
+    let turn = count_turn (nat_lt 0 c.lines.count) c.lines.rest.now c.rest_after-rest.result.now (omega arith)
+    c.rest_after-rest.ensures.left in
     omega (arith, turn, ap (λ m. count_from (length rest) m rest) some_group, c.lines.invariant)
 
 pub returns-clause-count : goal.returns-clause-count
 returns-clause-count c =
     let bytes = c.args.bytes.now in
     let rest = c.script_of-rest.result.now in
-    let none = count_none (nat_lt 0 c.lines.count) c.lines.rest.now (eqb-true (length c.lines.rest.now) 0 (sym c.lines-test.ensures)) in
+    let none = count_none (nat_lt 0 c.lines.count) c.lines.rest.now
+    (eqb-true (length c.lines.rest.now) 0 (sym c.lines-test.ensures)) in
     let within = new_script_within bytes in
-    let enough = count_enough (length rest) (length bytes) false rest (omega arith) (omega (arith, ap length c.script_of-rest.ensures.bytes)) in
+    let enough = count_enough (length rest) (length bytes) false rest (omega arith)
+    (omega (arith, ap length c.script_of-rest.ensures.bytes)) in
     let whole = lines_count (length bytes) (new_script bytes) in
     omega (arith, none, c.lines.invariant, enough, whole, ap (count_from (length bytes) false) c.script_of-rest.ensures.bytes)
 

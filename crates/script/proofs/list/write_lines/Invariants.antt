@@ -11,11 +11,14 @@ use Rattle.script.proofs.list.write_lines.Given as goal
 abbrev pub invariant-lines : goal.invariant-lines
 invariant-lines l =
     record {
-      written : take l.end l.buffer ++ concat (lines_left (script_state script_group l.script)) ≡ concat (lines_left (script_state script_group l.initial.script));
+      written : take l.end l.buffer ++ concat (lines_left (script_state script_group l.script))
+          ≡ concat (lines_left (script_state script_group l.initial.script));
       behind : drop l.end l.buffer ≡ drop l.end l.initial.buffer;
       room : l.end + 96 * length (lines_left (script_state script_group l.script)) ≤ length l.buffer;
-      each : All IsShort (lines_left (script_state script_group l.script)) → All IsShort (lines_left (script_state script_group l.initial.script));
-      short : l.end + 96 * length (lines_left (script_state script_group l.script)) ≤ 96 * length (lines_left (script_state script_group l.initial.script));
+      each : All IsShort (lines_left (script_state script_group l.script))
+          → All IsShort (lines_left (script_state script_group l.initial.script));
+      short : l.end + 96 * length (lines_left (script_state script_group l.script)) ≤ 96 * length
+          (lines_left (script_state script_group l.initial.script));
     }
 
 abbrev pub decreases-lines : goal.decreases-lines

@@ -13,6 +13,8 @@ pub returns : goal.returns
 returns g c =
     let after = parts_view c.tidy.new.self in
     record {
-      step = subst (λ (h : GroupRecord). (c.tidy.result, after) ≡ step g.C.ClockRule.answer g.K.MarkKind.kind (view h) (tidy c.args.site c.args.partition)) c.self.view_is c.tidy.ensures.step;
+      step = subst (λ (h : GroupRecord). (c.tidy.result, after)
+          ≡ step g.C.ClockRule.answer g.K.MarkKind.kind (view h) (tidy c.args.site c.args.partition)) c.self.view_is
+          c.tidy.ensures.step;
       keeps = subst (λ (h : GroupRecord). OnErr c.tidy.result (after ≡ view h)) c.self.view_is c.tidy.ensures.keeps;
     }

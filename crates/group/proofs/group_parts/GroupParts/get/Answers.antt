@@ -18,8 +18,10 @@ returns g c =
     record {
       step =
           gets k before mid (view c.show.new.self) c.args.session c.args.key p s (slice_get s.held index)
-          (Ok (Some c.show.result)) (sym c.if-not-has_session.ensures) c.partition_of-partition.ensures c.learn-place.ensures.state
-          (c.server.ensures ∙ at_numbers mid c.learn-place.result (session_at before c.args.session).site p c.learn-place.ensures.place)
+          (Ok (Some c.show.result)) (sym c.if-not-has_session.ensures) c.partition_of-partition.ensures
+          c.learn-place.ensures.state
+          (c.server.ensures ∙ at_numbers mid c.learn-place.result (session_at before c.args.session).site p
+          c.learn-place.ensures.place)
           c.in-Some.ensures.value
           (c.show.ensures ∙ ap (λ (t : ServerState). show k mid c.args.session (slice_get t.held index)) (sym c.server.ensures));
       keeps = tt;
@@ -35,7 +37,8 @@ returns-in_default g c =
       step =
           gets k before mid mid c.args.session c.args.key p (server_view c.server.result.now) None
           (Ok None) (sym c.if-not-has_session.ensures) c.partition_of-partition.ensures c.learn-place.ensures.state
-          (c.server.ensures ∙ at_numbers mid c.learn-place.result (session_at before c.args.session).site p c.learn-place.ensures.place)
+          (c.server.ensures ∙ at_numbers mid c.learn-place.result (session_at before c.args.session).site p
+          c.learn-place.ensures.place)
           c.in_default.ensures.value refl;
       keeps = tt;
     }

@@ -9,8 +9,10 @@ returns g c =
     let self = c.args.self.now in
     let rule = g.C.ClockRule.answer in
     let step =
-    on_server_lem (rest_of self) self.servers c.args.site c.args.partition c.in_ok-place.place c.index.result c.index-self-index.result c.heartbeat.new.self (c.heartbeat.result)
-    (server_heartbeat rule) c.in_ok-place.ensures.value (omega arith) (omega arith, omega arith) c.index.ensures c.heartbeat.ensures.step c.heartbeat.ensures.keeps
+    on_server_lem (rest_of self) self.servers c.args.site c.args.partition c.in_ok-place.place c.index.result
+    c.index-self-index.result c.heartbeat.new.self (c.heartbeat.result)
+    (server_heartbeat rule) c.in_ok-place.ensures.value (omega arith) (omega arith, omega arith) c.index.ensures
+    c.heartbeat.ensures.step c.heartbeat.ensures.keeps
     in
     record {
       step = step;

@@ -10,7 +10,8 @@ pub returns : goal.returns
 returns g c =
     let before = view c.args.self.now in
     let place = c.in_ok-place.place in
-    let is = passed (has_server before c.args.site c.args.partition) (place) (c.args.site, c.args.partition) c.in_ok-place.ensures.value in
+    let is = passed (has_server before c.args.site c.args.partition) (place) (c.args.site, c.args.partition)
+    c.in_ok-place.ensures.value in
     let same = ap lead_of (c.server.ensures ∙ by_numbers before.server c.args.site c.args.partition place is.1) in
     let has = is.0 in
     grind (arith, to_z-of_z, c.lead.ensures, same, has)

@@ -11,7 +11,8 @@ returns-clause-state g c =
     let before = view c.args.self.now in
     let k = g.K.MarkKind.kind in
     let p = c.args.partition in
-    let x : SessionState = record { site = c.session.inside.site; depends = c.session.inside.depends; knows = c.session.inside.knows } in
+    let x : SessionState =
+    record { site = c.session.inside.site; depends = c.session.inside.depends; knows = c.session.inside.knows } in
     learns k before (view c.raise.new.self) (view c.set_session.new.self) c.args.number p x
     (g.K.MarkKind.meaning c.floor.result) (c.stable-knows.result) c.raise.ensures c.floor.ensures.value
     (c.stable-knows.ensures ∙ ap (λ (s : ServerState). s.marks.stable) c.server.ensures) c.set_session.ensures

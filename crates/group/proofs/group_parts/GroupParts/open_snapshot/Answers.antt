@@ -20,7 +20,9 @@ returns-clause-step g c =
     c.take_seat.result.seat c.take_seat.result.serial
     is.0 (sym c.if-not-has_session.ensures) (sym c.lowest_free.ensures ∙ c.in-Some.is) self.seats.sized (omega arith)
     (c.learn-place.ensures.state ∙ ap (λ q. learn k before c.args.session (session_at before c.args.session) q) is.1)
-    (c.stable-cut.ensures ∙ ap (λ (s : ServerState). s.marks.stable) (c.server.ensures ∙ at_numbers mid c.learn-place.result (session_at before c.args.session).site p (c.learn-place.ensures.place ∙ ap (λ n. ((session_at before c.args.session).site, n)) is.1)))
+    (c.stable-cut.ensures ∙ ap (λ (s : ServerState). s.marks.stable)
+    (c.server.ensures ∙ at_numbers mid c.learn-place.result (session_at before c.args.session).site p
+    (c.learn-place.ensures.place ∙ ap (λ n. ((session_at before c.args.session).site, n)) is.1)))
     c.take_seat.ensures.ticket.0 c.take_seat.ensures.ticket.1 c.take_seat.ensures.seated
 
 pub returns-clause-open : goal.returns-clause-open

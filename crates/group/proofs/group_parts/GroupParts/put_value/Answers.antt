@@ -20,21 +20,25 @@ returns-in_err-version g c =
     let mid = view c.write.new.self in
     let rule = g.C.ClockRule.answer in
     let k = g.K.MarkKind.kind in
-    let x : SessionState = record { site = c.session.inside.site; depends = c.session.inside.depends; knows = c.session.inside.knows } in
+    let x : SessionState =
+    record { site = c.session.inside.site; depends = c.session.inside.depends; knows = c.session.inside.knows } in
     let value = c.args.value in
     let p = partition_of before c.args.key in
     let why = c.in_err-version.field-0.0 in
     let refused : c.from_residual.result ≡ Err why = search rules in
     let t = server_put rule k (before.server x.site p) c.args.key value (k.floor x.depends) (k.floor x.knows) in
     let wrote =
-    writes rule k before mid x.site c.args.key c.partition_of.result p value (g.K.MarkKind.meaning c.floor-depends.result) (k.floor x.depends)
-    (g.K.MarkKind.meaning c.floor.result) (k.floor x.knows) (Err why) c.partition_of.ensures c.floor-depends.ensures.value c.floor.ensures.value
+    writes rule k before mid x.site c.args.key c.partition_of.result p value
+    (g.K.MarkKind.meaning c.floor-depends.result) (k.floor x.depends)
+    (g.K.MarkKind.meaning c.floor.result) (k.floor x.knows) (Err why) c.partition_of.ensures
+    c.floor-depends.ensures.value c.floor.ensures.value
     (ap (λ (r : Result Version Refusal). (r, mid)) (sym c.in_err-version.was) ∙ c.write.ensures)
     in
     record {
       step =
           ap (λ r. (r, mid)) refused ∙ puts_not k before mid c.args.number c.args.key why x t wrote
-          ∙ ap (λ s. put_value rule k before c.args.number c.args.key s (Ok value)) (c.session.view_is ∙ c.session_at-session.ensures.value);
+          ∙ ap (λ s. put_value rule k before c.args.number c.args.key s (Ok value))
+          (c.session.view_is ∙ c.session_at-session.ensures.value);
       keeps = subst (λ r. OnErr r (mid ≡ before)) (sym refused) (refused_same before mid x.site p why t wrote);
     }
 
@@ -45,20 +49,24 @@ returns g c =
     let after = view c.depend.new.self in
     let rule = g.C.ClockRule.answer in
     let k = g.K.MarkKind.kind in
-    let x : SessionState = record { site = c.session.inside.site; depends = c.session.inside.depends; knows = c.session.inside.knows } in
+    let x : SessionState =
+    record { site = c.session.inside.site; depends = c.session.inside.depends; knows = c.session.inside.knows } in
     let value = c.args.value in
     let p = partition_of before c.args.key in
     let version = c.in_ok-version.version in
     let t = server_put rule k (before.server x.site p) c.args.key value (k.floor x.depends) (k.floor x.knows) in
     let wrote =
-    writes rule k before mid x.site c.args.key c.partition_of.result p value (g.K.MarkKind.meaning c.floor-depends.result) (k.floor x.depends)
-    (g.K.MarkKind.meaning c.floor.result) (k.floor x.knows) (Ok version) c.partition_of.ensures c.floor-depends.ensures.value c.floor.ensures.value
+    writes rule k before mid x.site c.args.key c.partition_of.result p value
+    (g.K.MarkKind.meaning c.floor-depends.result) (k.floor x.depends)
+    (g.K.MarkKind.meaning c.floor.result) (k.floor x.knows) (Ok version) c.partition_of.ensures
+    c.floor-depends.ensures.value c.floor.ensures.value
     (ap (λ (r : Result Version Refusal). (r, mid)) (sym c.in_ok-version.was) ∙ c.write.ensures)
     in
     record {
       step =
           ap (λ n. (Ok n, after)) c.stamp.ensures
           ∙ puts k before mid after c.args.number c.args.key x version t wrote c.depend.ensures
-          ∙ ap (λ s. put_value rule k before c.args.number c.args.key s (Ok value)) (c.session.view_is ∙ c.session_at-session.ensures.value);
+          ∙ ap (λ s. put_value rule k before c.args.number c.args.key s (Ok value))
+          (c.session.view_is ∙ c.session_at-session.ensures.value);
       keeps = tt;
     }

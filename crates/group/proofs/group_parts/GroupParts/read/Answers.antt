@@ -17,12 +17,15 @@ returns g c =
     let index = c.in-Some.index in
     record {
       step =
-          reads k before mid (view c.show.new.self) y c.args.key c.partition_of.result c.place.inside.site (g.K.MarkKind.meaning c.floor-cut.result)
+          reads k before mid (view c.show.new.self) y c.args.key c.partition_of.result c.place.inside.site
+          (g.K.MarkKind.meaning c.floor-cut.result)
           s (slice_get s.held index) (Ok (Some c.show.result))
-          (ap (λ (x : SessionState). x.site) (c.place.view_is ∙ c.session_at.ensures.value)) c.partition_of.ensures c.floor-cut.ensures.value c.raise.ensures c.server.ensures
+          (ap (λ (x : SessionState). x.site) (c.place.view_is ∙ c.session_at.ensures.value)) c.partition_of.ensures
+          c.floor-cut.ensures.value c.raise.ensures c.server.ensures
           c.in-Some.ensures.value
           (c.show.ensures ∙ ap (λ (t : ServerState). show k mid y.session (slice_get t.held index)) (sym c.server.ensures))
-          ∙ sym (opens before ticket.serial (seat_at before ticket.seat) y _ (sym c.open_seat.ensures ∙ c.in_ok-seat.was ∙ ap Ok (sym c.seat.view_is)));
+          ∙ sym (opens before ticket.serial (seat_at before ticket.seat) y _
+          (sym c.open_seat.ensures ∙ c.in_ok-seat.was ∙ ap Ok (sym c.seat.view_is)));
       keeps = tt;
     }
 
@@ -37,8 +40,10 @@ returns-in_default g c =
       step =
           reads k before mid mid y c.args.key c.partition_of.result c.place.inside.site (g.K.MarkKind.meaning c.floor-cut.result)
           (server_view c.server.result.now) None (Ok None)
-          (ap (λ (x : SessionState). x.site) (c.place.view_is ∙ c.session_at.ensures.value)) c.partition_of.ensures c.floor-cut.ensures.value c.raise.ensures c.server.ensures
+          (ap (λ (x : SessionState). x.site) (c.place.view_is ∙ c.session_at.ensures.value)) c.partition_of.ensures
+          c.floor-cut.ensures.value c.raise.ensures c.server.ensures
           c.in_default.ensures.value refl
-          ∙ sym (opens before ticket.serial (seat_at before ticket.seat) y _ (sym c.open_seat.ensures ∙ c.in_ok-seat.was ∙ ap Ok (sym c.seat.view_is)));
+          ∙ sym (opens before ticket.serial (seat_at before ticket.seat) y _
+          (sym c.open_seat.ensures ∙ c.in_ok-seat.was ∙ ap Ok (sym c.seat.view_is)));
       keeps = tt;
     }

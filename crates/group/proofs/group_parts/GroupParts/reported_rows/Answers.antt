@@ -9,8 +9,16 @@ use Rattle.group.proofs.group_parts.GroupParts.reported_rows.Goals as goal
 -- there is room: a site has at most four servers
 pub push-requires : goal.push-requires
 push-requires g c =
-    let f : ℕ → PerSite = λ n. ((view c.args.self.now).server c.args.site n).marks.reported in
-    (omega arith, omega (arith, ap length c.loop-server.invariant, length_first f c.loop-server.server-index, c.loop-server-test.true, c.servers_of-server-items.ensures.few))
+    let f : ℕ → PerSite = λ n. ((view c.args.self.now).server c.args.site n).marks.reported in (
+      omega arith,
+      omega (
+        arith,
+        ap length c.loop-server.invariant,
+        length_first f c.loop-server.server-index,
+        c.loop-server-test.true,
+        c.servers_of-server-items.ensures.few,
+      ),
+    )
 
 pub loop-server-preserved : goal.loop-server-preserved
 loop-server-preserved g c =
@@ -18,9 +26,11 @@ loop-server-preserved g c =
     let server = c.server-item.result in
     let servers = c.servers_of-server-items.result.now in
     let here : i < length servers = omega arith in
-    row_more (λ n. ((view c.args.self.now).server c.args.site n).marks.reported) i c.loop-server.rows.items c.push.new.self.items c.reported.result
+    row_more (λ n. ((view c.args.self.now).server c.args.site n).marks.reported) i c.loop-server.rows.items
+    c.push.new.self.items c.reported.result
     c.push.ensures.items c.loop-server.invariant
-    (c.reported.ensures ∙ ap (λ (s : ServerState). s.marks.reported) (item_of servers i server here c.server-item.is c.servers_of-server-items.ensures.servers.1))
+    (c.reported.ensures ∙ ap (λ (s : ServerState). s.marks.reported)
+    (item_of servers i server here c.server-item.is c.servers_of-server-items.ensures.servers.1))
 
 -- a row for each of the partitions
 pub returns : goal.returns

@@ -20,7 +20,8 @@ cut_of-requires g c = (
   omega arith,
   λ y is.
       c.args.self.now.opened c.loop-seat.seat-index y
-      (seat_of_place c.args.self.now.seats.places c.as_slice-seat-items.result.now c.loop-seat.seat-index c.seat-item.result c.as_slice-seat-items.ensures c.seat-item.is c.loop-seat-test.true ∙ is),
+      (seat_of_place c.args.self.now.seats.places c.as_slice-seat-items.result.now c.loop-seat.seat-index
+      c.seat-item.result c.as_slice-seat-items.ensures c.seat-item.is c.loop-seat-test.true ∙ is),
 )
 
 pub loop-seat-preserved : goal.loop-seat-preserved
@@ -31,10 +32,12 @@ loop-seat-preserved g c =
     let i = c.loop-seat.seat-index in
     let xs = c.loop-seat.rows.items in
     let all = stable_at before site ++ cuts_at before site in
-    let Collected : ArrayVec Row → Type 0 = λ rows. (rows.items ++ cuts_of before site (drop (i + 1) seats) ≡ all) × (length rows.items ≤ 4 + (i + 1)) in
+    let Collected : ArrayVec Row → Type 0 =
+    λ rows. (rows.items ++ cuts_of before site (drop (i + 1) seats) ≡ all) × (length rows.items ≤ 4 + (i + 1)) in
     let here : i < length seats = omega (arith, c.args.self.now.seats.sized, ap length c.as_slice-seat-items.ensures) in
     let seat : get_or seats i None ≡ c.seat-item.result =
-    seat_of_place seats c.as_slice-seat-items.result.now i c.seat-item.result c.as_slice-seat-items.ensures c.seat-item.is (omega arith)
+    seat_of_place seats c.as_slice-seat-items.result.now i c.seat-item.result c.as_slice-seat-items.ensures
+    c.seat-item.is (omega arith)
     in
     let few : length xs ≤ 4 + i = c.loop-seat.invariant.1 in
     let four : length seats ≡ 4 = c.args.self.now.seats.sized in
@@ -47,6 +50,9 @@ loop-seat-preserved g c =
             omega (arith, w.push.ensures.len),
           )
       | in_default w ↦
-          subst Collected (sym w.rows-is)
-          (cut_none before site seats i xs all here (ap (cut_in before site) seat ∙ sym c.cut_of.ensures ∙ w.in_default.is) c.loop-seat.invariant.0, omega arith)
+          subst Collected (sym w.rows-is) (
+            cut_none before site seats i xs all here
+                (ap (cut_in before site) seat ∙ sym c.cut_of.ensures ∙ w.in_default.is) c.loop-seat.invariant.0,
+            omega arith,
+          )
     ]

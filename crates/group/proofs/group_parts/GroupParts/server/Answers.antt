@@ -6,4 +6,5 @@ pub returns : goal.returns
 returns g c =
     let self = c.args.self.now in
     let place = c.args.place in
-    sym (at_place self.layout.sites self.servers place.0 place.1 c.index.result c.index-self-index.result (omega arith) (omega arith) (omega arith) c.requires c.index.ensures)
+    sym (at_place self.layout.sites self.servers place.0 place.1 c.index.result c.index-self-index.result (omega arith)
+    (omega arith) (omega arith) c.requires c.index.ensures)

@@ -8,7 +8,13 @@ pub returns : goal.returns
 returns g c =
     let self = c.args.self.now in
     let step =
-    on_server_lem (rest_of self) self.servers c.args.site c.args.partition c.in_ok-place.place c.index.result c.index-self-index.result c.tell.new.self c.tell.result
-    (λ s. server_tell s c.args.time) c.in_ok-place.ensures.value (omega arith) (omega arith, omega arith) c.index.ensures c.tell.ensures.step c.tell.ensures.keeps
+    on_server_lem (rest_of self) self.servers c.args.site c.args.partition c.in_ok-place.place c.index.result
+    c.index-self-index.result c.tell.new.self c.tell.result
+    (λ s. server_tell s c.args.time) c.in_ok-place.ensures.value (omega arith) (omega arith, omega arith)
+    c.index.ensures c.tell.ensures.step c.tell.ensures.keeps
     in
-    record { step = step; keeps = on_server_keeps (view self) _ c.args.site c.args.partition c.tell.result (λ s. server_tell s c.args.time) step }
+    record {
+      step = step;
+      keeps = on_server_keeps (view self) _ c.args.site c.args.partition c.tell.result
+          (λ s. server_tell s c.args.time) step;
+    }

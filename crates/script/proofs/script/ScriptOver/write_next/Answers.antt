@@ -7,5 +7,6 @@ use Rattle.script.proofs.script.ScriptOver.write_next.Goals as goal
 pub invariant_of-self : goal.invariant_of-self
 invariant_of-self g c =
     let obeys = g.G.Obeys in
-    let same = ap (λ (o : Answer × ScriptState obeys.State). o.1.lines) c.next_answer-answer.ensures.answer ∙ next_answer_lines obeys.obey_gives (script_state obeys.state c.args.self.now) in
+    let same = ap (λ (o : Answer × ScriptState obeys.State). o.1.lines) c.next_answer-answer.ensures.answer
+    ∙ next_answer_lines obeys.obey_gives (script_state obeys.state c.args.self.now) in
     record { few = omega arith }

@@ -10,8 +10,11 @@ use Rattle.servers.proofs.outbox.Outbox.issue.Goals as goal
 -- there is room
 pub push-requires : goal.push-requires
 push-requires c =
-    let o = c.args.self.now in
-    (omega arith, leb-false 16 (length o.entries.items) (full_is o.peers.own o.peers.sites o.entries.items o.left o.others o.needed ∙ c.requires))
+    let o = c.args.self.now in (
+      omega arith,
+      leb-false 16 (length o.entries.items)
+          (full_is o.peers.own o.peers.sites o.entries.items o.left o.others o.needed ∙ c.requires),
+    )
 
 pub invariant_of-self : goal.invariant_of-self
 invariant_of-self c =

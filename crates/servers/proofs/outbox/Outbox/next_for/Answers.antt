@@ -16,6 +16,9 @@ returns c =
     let x = c.index-entries-entries.result in
     let within = left_within o.left (length es) i o.needed in
     let some : 0 < at o.left i = omega arith in
-    let place : length es - at o.left i ≡ length c.as_slice-entries.result.now - c.at-left.result = omega (arith, ap length c.as_slice-entries.ensures.value) in
-    let is : x ≡ get_or es (length c.as_slice-entries.result.now - c.at-left.result) x = c.index-entries-entries.is ∙ ap (λ xs. get_or xs (length c.as_slice-entries.result.now - c.at-left.result) x) c.as_slice-entries.ensures.value in
+    let place : length es - at o.left i ≡ length c.as_slice-entries.result.now - c.at-left.result =
+    omega (arith, ap length c.as_slice-entries.ensures.value) in
+    let is : x ≡ get_or es (length c.as_slice-entries.result.now - c.at-left.result) x = c.index-entries-entries.is
+    ∙ ap (λ xs. get_or xs (length c.as_slice-entries.result.now - c.at-left.result) x)
+    c.as_slice-entries.ensures.value in
     ap Some (is ∙ ap (λ k. get_or es k x) (sym place)) ∙ next_some es o.left i x (omega arith) some (omega arith)

@@ -24,7 +24,8 @@ invariant_of-self c =
 pub keep_last-requires : goal.keep_last-requires
 keep_last-requires c =
     let o = c.args.self.now in
-    let after = fewer_counts o.peers.own o.peers.sites c.args.site o.left (length o.entries.items) (omega arith) o.others o.needed in
+    let after = fewer_counts o.peers.own o.peers.sites c.args.site o.left (length o.entries.items) (omega arith)
+    o.others o.needed in
     omega (arith, c.greatest.ensures, ap greatest c.one_less-left.ensures, after.2)
 
 pub returns : goal.returns
