@@ -40,14 +40,16 @@ pub cut_more : (g : GroupState) (site : ℕ) (seats : List (Option SeatState)) (
 cut_more g site seats i xs ys x all here cut push before =
     let rest = cuts_of g site (drop (i + 1) seats) in
     let now : cuts_of g site (drop i seats) ≡ x ∷ rest =
-    ap (cuts_of g site) (drop_more seats i None here) ∙ cuts_some g site (get_or seats i None) (drop (i + 1) seats) x cut
+    ap (cuts_of g site) (drop_more seats i None here)
+    ∙ cuts_some g site (get_or seats i None) (drop (i + 1) seats) x cut
     in
     ap (λ t. t ++ rest) push
     ∙ append_assoc xs (x ∷ []) rest
     ∙ ap (λ t. xs ++ t) (sym now) ∙ before
 
 -- nothing is pushed
-pub cut_none : (g : GroupState) (site : ℕ) (seats : List (Option SeatState)) (i : ℕ) (xs : List Row) (all : List PerSite)
+pub cut_none : (g : GroupState) (site : ℕ) (seats : List (Option SeatState)) (i : ℕ) (xs : List Row)
+    (all : List PerSite)
     → i < length seats → cut_in g site (get_or seats i None) ≡ None
     → xs ++ cuts_of g site (drop i seats) ≡ all → xs ++ cuts_of g site (drop (i + 1) seats) ≡ all
 cut_none g site seats i xs all here cut before =

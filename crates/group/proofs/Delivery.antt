@@ -40,7 +40,8 @@ lined : (sites partitions from to partition : ℕ) (sender taker : Place)
     → (Ok (sender, taker)) ≡ checked_line sites partitions from to partition
     → (is_line sites partitions from to partition ≡ true) × (sender ≡ (from, partition)) × (taker ≡ (to, partition))
 lined sites partitions from to partition sender taker e =
-    let p = passed (is_line sites partitions from to partition) (sender, taker) ((from, partition), (to, partition)) e in
+    let p = passed (is_line sites partitions from to partition) (sender, taker) ((from, partition), (to, partition))
+    e in
     let first : (ℕ × ℕ) × (ℕ × ℕ) → ℕ × ℕ = λ x. x.0 in
     let second : (ℕ × ℕ) × (ℕ × ℕ) → ℕ × ℕ = λ x. x.1 in
     (p.0, ap first p.1, ap second p.1)
@@ -81,8 +82,10 @@ deliver_done g mid after from to partition sender taker r next entry line waits 
     ap (λ t. (t, mid)) (sym ok) ∙ take ∙ taken g from to partition sender taker entry is.1 is.2
     in
     let handed : after ≡ with_server mid from partition (server_hand_over (mid.server from partition) to) =
-    hand ∙ by_numbers (λ i n. with_server mid i n (server_hand_over (mid.server i n) taker.0)) from partition sender is.1
-    ∙ by_numbers (λ i n. with_server mid from partition (server_hand_over (mid.server from partition) i)) to partition taker is.2
+    hand ∙ by_numbers (λ i n. with_server mid i n (server_hand_over (mid.server i n) taker.0)) from partition sender
+    is.1
+    ∙ by_numbers (λ i n. with_server mid from partition (server_hand_over (mid.server from partition) i)) to partition
+    taker is.2
     in
     took g mid after from to partition (server_take (g.server to partition) from entry) took_it handed ne
     ∙ ap (deliver_entry g from to partition) (sym some ∙ waiting g from to partition sender taker next is.1 is.2 waits)

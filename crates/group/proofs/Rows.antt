@@ -12,7 +12,8 @@ length_first f (suc n) = omega (arith, length-append (tabulate f n) (f n ∷ [])
 pub row_more : {A : Type 0} (f : ℕ → A) (n : ℕ) (xs ys : List A) (x : A) → ys ≡ xs ++ x ∷ [] → xs ≡ tabulate f n
     → x ≡ f n → ys ≡ tabulate f (n + 1)
 row_more f n xs ys x more before row =
-    subst (λ m. ys ≡ tabulate f m) (sym (add-one n)) (more ∙ ap (λ t. t ++ x ∷ []) before ∙ ap (λ t. tabulate f n ++ t ∷ []) row)
+    subst (λ m. ys ≡ tabulate f m) (sym (add-one n))
+    (more ∙ ap (λ t. t ++ x ∷ []) before ∙ ap (λ t. tabulate f n ++ t ∷ []) row)
 
 -- what is said of each server, of the one that a loop is at
 pub item_of : {f : ℕ → ServerState} (servers : List ServerRecord) (i : ℕ) (x : ServerRecord)

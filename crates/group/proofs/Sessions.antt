@@ -20,7 +20,8 @@ use Rattle.group.specs.Sessions.{free_seat, open_at}
 use Rattle.group.proofs.Cuts.{found_free}
 
 -- the server that was replaced
-server_here : (g : GroupState) (site partition : ℕ) (s : ServerState) → (with_server g site partition s).server site partition ≡ s
+server_here : (g : GroupState) (site partition : ℕ) (s : ServerState)
+    → (with_server g site partition s).server site partition ≡ s
 server_here g site partition s =
     cond-true (eqb site site && eqb partition partition) s (g.server site partition)
     (and_from (eqb site site) (eqb partition partition) (eq-eqb site site refl) (eq-eqb partition partition refl))
@@ -40,7 +41,8 @@ learns k g mid after i partition x mark known raises knows stable sets =
     ∙ ap (λ (t : ServerState). t.marks.stable) (server_here g x.site partition s)
     in
     sets ∙ ap (λ h. with_session h i (record { site = x.site; depends = x.depends; knows = known })) heard
-    ∙ ap (λ t. with_session (with_server g x.site partition s) i (record { site = x.site; depends = x.depends; knows = t })) same
+    ∙ ap (λ t. with_session (with_server g x.site partition s) i
+    (record { site = x.site; depends = x.depends; knows = t })) same
 
 -- the session's server after it has learnt
 pub learnt_server : (k : Kind) (g mid : GroupState) (i partition : ℕ) (x : SessionState) → mid ≡ learn k g i x partition
@@ -61,7 +63,8 @@ gets k g mid after i key partition s found r has place learns there sees shows =
     let x = session_at g i in
     let seen : found ≡ latest_visible k (informed_server k g x partition) key = sees
     ∙ ap (λ t. latest_visible k t key) (there ∙ learnt_server k g mid i partition x learns) in
-    shows ∙ ap (show k mid i) seen ∙ ap (λ h. show k h i (latest_visible k (informed_server k g x partition) key)) learns
+    shows ∙ ap (show k mid i) seen ∙ ap (λ h. show k h i (latest_visible k (informed_server k g x partition) key))
+    learns
     ∙ ap (λ p. show k (learn k g i x p) i (latest_visible k (informed_server k g x p) key)) place
     ∙ sym (cond-true (ltb i (length g.sessions)) _ (Err NoSession, g) has)
 
@@ -149,12 +152,14 @@ abbrev pub ticket : ℕ → ℕ → Ticket
 ticket seat serial = record { seat = seat; serial = serial }
 
 -- a snapshot is opened at the lowest free seat
-pub seats_it : (k : Kind) (g mid after : GroupState) (i partition seat : ℕ) (cut : PerSite) (ticket_seat ticket_serial : ℕ)
+pub seats_it : (k : Kind) (g mid after : GroupState) (i partition seat : ℕ) (cut : PerSite)
+    (ticket_seat ticket_serial : ℕ)
     → ltb partition g.partitions ≡ true → ltb i (length g.sessions) ≡ true → free_seat g.seats ≡ Some seat
     → length g.seats ≡ 4 → g.next_serial < 2 ^ 32 - 1
     → mid ≡ learn k g i (session_at g i) partition → cut ≡ (mid.server (session_at g i).site partition).marks.stable
     → ticket_seat ≡ seat → ticket_serial ≡ mid.next_serial
-    → after ≡ with_seat mid seat (Some (record { session = i; serial = mid.next_serial; cut = cut })) (suc mid.next_serial)
+    → after ≡ with_seat mid seat (Some (record { session = i; serial = mid.next_serial; cut = cut }))
+    (suc mid.next_serial)
     → (Ok (ticket ticket_seat ticket_serial), after)
     ≡ cond (ltb partition g.partitions) (on_session g i (λ x. open_snapshot_at k g i x partition (lowest_free g.seats)))
     (Err NotInLayout, g)
@@ -191,7 +196,8 @@ seats_it k g mid after i partition seat cut ticket_seat ticket_serial has sessio
 -- a snapshot that was seated is open
 pub has_open : (mid after : GroupState) (i seat : ℕ) (cut : PerSite) (t : Ticket) → seat < length mid.seats
     → t.seat ≡ seat → t.serial ≡ mid.next_serial
-    → after ≡ with_seat mid seat (Some (record { session = i; serial = mid.next_serial; cut = cut })) (suc mid.next_serial)
+    → after ≡ with_seat mid seat (Some (record { session = i; serial = mid.next_serial; cut = cut }))
+    (suc mid.next_serial)
     → HasOpen after t
 has_open mid after i seat cut t inside seated serial sets =
     let y : SeatState = record { session = i; serial = mid.next_serial; cut = cut } in

@@ -76,7 +76,8 @@ IsPlace sites place = (place.0 < 4) × (place.1 < 4) × (place.0 < sites)
 -- the server that stands in the array
 pub at_place : (sites : ℕ) (servers : List ServerRecord) (site partition p : ℕ) (d : ServerRecord)
     → length servers ≡ 16 → site < 4 → partition < 4 → site < sites
-    → p ≡ place_of site partition → server_from sites (map server_view servers) site partition ≡ server_view (get_or servers p d)
+    → p ≡ place_of site partition → server_from sites (map server_view servers) site partition
+    ≡ server_view (get_or servers p d)
 at_place sites servers site partition p d len ls lp inside e =
     let m = get_or-map server_view servers p d (new_server site sites) (omega arith) in
     grind (arith, nat_tests, m)
@@ -111,12 +112,14 @@ change_server_lem rest servers place p d new change len is e step =
     let s = server_view new in
     let g = state_with rest (server_from rest.sites xs) in
     ap (λ t. state_with rest (server_from rest.sites t)) (map-set server_view servers p new ∙ ap (λ q. set xs q s) e)
-    ∙ ap (state_with rest) (at_set rest.sites xs place.0 place.1 s (length-map servers server_view ∙ len) is.0 is.1 is.2)
+    ∙ ap (state_with rest) (at_set rest.sites xs place.0 place.1 s (length-map servers server_view ∙ len) is.0 is.1
+    is.2)
     ∙ ap (λ t. with_server_at g place t) (step
     ∙ ap change (sym (at_place rest.sites servers place.0 place.1 p d len is.0 is.1 is.2 e)))
 
 -- a server's answer, and the group with that server as it was left, are the group's answer and state
-left_server : {A : Type 0} (rest : Rest) (xs : List ServerState) (place : Place) (r : Result A Refusal) (s : ServerState)
+left_server : {A : Type 0} (rest : Rest) (xs : List ServerState) (place : Place) (r : Result A Refusal)
+    (s : ServerState)
     → length xs ≡ 16 → IsPlace rest.sites place → OnErr r (s ≡ server_from rest.sites xs place.0 place.1)
     → (r, state_with rest (server_from rest.sites (set xs (place_of place.0 place.1) s)))
     ≡ server_left (state_with rest (server_from rest.sites xs)) place.0 place.1 (r, s)
@@ -130,7 +133,8 @@ pub call_server : {A : Type 0} (rest : Rest) (servers : List ServerRecord) (plac
     (d new : ServerRecord) (r : Result A Refusal)
     (act : ServerState → Result A Refusal × ServerState)
     → length servers ≡ 16 → IsPlace rest.sites place → p ≡ place_of place.0 place.1
-    → (r, server_view new) ≡ act (server_view (get_or servers p d)) → OnErr r (server_view new ≡ server_view (get_or servers p d))
+    → (r, server_view new) ≡ act (server_view (get_or servers p d))
+    → OnErr r (server_view new ≡ server_view (get_or servers p d))
     → (r, state_with rest (server_from rest.sites (map server_view (set servers p new))))
     ≡ call_server_at (state_with rest (server_from rest.sites (map server_view servers))) place act
 call_server rest servers place p d new r act len is e step keeps =
@@ -161,7 +165,8 @@ at_numbers g place site partition e = by_numbers g.server site partition place e
 -- a call of the server that a layout has
 pub on_place : {A : Type 0} (g : GroupState) (site partition : ℕ) (place : Place)
     (act : ServerState → Result A Refusal × ServerState)
-    → (Ok place) ≡ checked_place g.sites g.partitions site partition → call_server_at g place act ≡ on_server g site partition act
+    → (Ok place) ≡ checked_place g.sites g.partitions site partition
+    → call_server_at g place act ≡ on_server g site partition act
 on_place g site partition place act e =
     let p = passed (has_server g site partition) place (site, partition) e in
     by_numbers (λ i n. server_left g i n (act (g.server i n))) site partition place p.1
@@ -195,7 +200,8 @@ pub on_server_lem : {A : Type 0} (rest : Rest) (servers : List ServerRecord) (si
     (act : ServerState → Result A Refusal × ServerState)
     → (Ok place) ≡ checked_place rest.sites rest.partitions site partition → length servers ≡ 16
     → (place.0 < 4) × (place.1 < 4) → p ≡ place_of place.0 place.1
-    → (r, server_view new) ≡ act (server_view (get_or servers p d)) → OnErr r (server_view new ≡ server_view (get_or servers p d))
+    → (r, server_view new) ≡ act (server_view (get_or servers p d))
+    → OnErr r (server_view new ≡ server_view (get_or servers p d))
     → (r, state_with rest (server_from rest.sites (map server_view (set servers p new))))
     ≡ on_server (state_with rest (server_from rest.sites (map server_view servers))) site partition act
 on_server_lem rest servers site partition place p d new r act found len is e step keeps =
@@ -204,7 +210,8 @@ on_server_lem rest servers site partition place p d new r act found len is e ste
     ∙ on_place (state_with rest (server_from rest.sites (map server_view servers))) site partition place act found
 
 -- a refusal of a server leaves the group as it was
-pub refused_same : {A : Type 0} (g mid : GroupState) (site partition : ℕ) (why : Refusal) (t : Result A Refusal × ServerState)
+pub refused_same : {A : Type 0} (g mid : GroupState) (site partition : ℕ) (why : Refusal)
+    (t : Result A Refusal × ServerState)
     → (Err why, mid) ≡ server_left g site partition t → mid ≡ g
 refused_same {A} g mid site partition why (Err other, s) e =
     let second : Result A Refusal × GroupState → GroupState = λ x. x.1 in
@@ -270,8 +277,10 @@ at_made sites a0 a1 a2 a3 b0 b1 b2 b3 c0 c1 c2 c3 d0 d1 d2 d3 a b c d =
         (λ h. let both = and_parts (ltb site sites) (ltb n 4) h in made (ltb-true site sites both.0)) (λ _. refl)
 
     row : (site : ℕ) (e f g h : ServerState) → (site < sites → AreNew sites site e f g h)
-        → get_or all (place_of site 0) (new_server site sites) ≡ e → get_or all (place_of site 1) (new_server site sites) ≡ f
-        → get_or all (place_of site 2) (new_server site sites) ≡ g → get_or all (place_of site 3) (new_server site sites) ≡ h
+        → get_or all (place_of site 0) (new_server site sites) ≡ e
+        → get_or all (place_of site 1) (new_server site sites) ≡ f
+        → get_or all (place_of site 2) (new_server site sites) ≡ g
+        → get_or all (place_of site 3) (new_server site sites) ≡ h
         → (n : ℕ) → server_from sites all site n ≡ new_server site sites
     row site e f g h made p q r s n =
         by_site (λ m. server_from sites all site m ≡ new_server site sites)

@@ -48,7 +48,8 @@ not_read : (rest : List ℕ) → BytesAt rest → ((command : Command) (after : 
     → (why : Refusal) × (read_command rest ≡ Err why)
 not_read rest h ends = by_read (read_command rest) refl
   where
-    by_read : (r : Result (Command × List ℕ) Refusal) → read_command rest ≡ r → (why : Refusal) × (read_command rest ≡ Err why)
+    by_read : (r : Result (Command × List ℕ) Refusal) → read_command rest ≡ r
+        → (why : Refusal) × (read_command rest ≡ Err why)
     by_read (Err why) e = (why, e)
     by_read (Ok p) e = let w = read_command-bytes rest p h e in absurd (ends p.0 p.1 w.0 w.1)
 
@@ -98,7 +99,8 @@ command_lines command left s more fits is then = by_outcome (obey s.group comman
         → get_or s.rest 0 0 ≡ letter_of command → next_answer obey s ≡ after_obey s left outcome
         → lines_left s ≡ answer_lines (s.lines + 1) (answers_from (letter_of command) more outcome)
     by_answer (Ok answer, group) some first step =
-        lines_step s (letter_of command) (answer, record { rest = left; lines = s.lines; group = group }) some first step
+        lines_step s (letter_of command) (answer, record { rest = left; lines = s.lines; group = group }) some first
+        step
         ∙ ap (λ lines. line_of (s.lines + 1) (letter_of command) answer ∷ lines) (then group)
     by_answer (Err why, group) some first step = lines_end s (letter_of command) s.rest group why some first step
 
@@ -109,7 +111,8 @@ command_lines command left s more fits is then = by_outcome (obey s.group comman
         omega (arith, ap length is, length-append (bytes_of command) left, length-bytes_of command) in
         let first : get_or s.rest 0 0 ≡ letter_of command = ap (λ r. get_or r 0 0) is
         ∙ get_or_append_left (bytes_of command) left 0 0 (length-bytes_of command) in
-        let step = sym (read_obeyed obey s command left outcome (sym (ap read_command is ∙ bytes_of-read command left fits)) e) in
+        let step = sym (read_obeyed obey s command left outcome
+        (sym (ap read_command is ∙ bytes_of-read command left fits)) e) in
         by_answer outcome some first step
 
 -- the lines of commands and a rest are those of what they answer
@@ -124,7 +127,8 @@ answered_lines (command ∷ commands) rest s i h =
     let later : IsScript left commands rest =
     record { fits = All-tail OperandsFit command commands i.fits; bytes = refl; ends = i.ends } in
     let all : BytesAt (bytes_of command ++ left) = rw (← whole) h in
-    command_lines command left s (λ group. answers group commands rest) (All-head OperandsFit command commands i.fits) whole
+    command_lines command left s (λ group. answers group commands rest) (All-head OperandsFit command commands i.fits)
+    whole
     (λ group. answered_lines commands rest (record { rest = left; lines = s.lines + 1; group = group }) later
     (bytes_after (bytes_of command) left all))
 
@@ -179,5 +183,6 @@ lines_due bytes commands rest h i = sym (lines_new bytes)
 pub listing_law : (bytes : List ℕ) → BytesAt bytes → All IsShort (lines_of bytes) → IsListing bytes (listing bytes)
 listing_law bytes h short = record {
   every = every_script (suc (length (script_of bytes))) (script_of bytes) (omega arith) (bytes_before 65535 bytes h);
-  lines = λ commands rest i. let due = lines_due bytes commands rest h i in (ap concat due, subst (All IsShort) due short);
+  lines = λ commands rest i. let due = lines_due bytes commands rest h i in
+      (ap concat due, subst (All IsShort) due short);
 }

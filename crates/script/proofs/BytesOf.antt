@@ -39,11 +39,14 @@ bytes_of-read (Put session key kind amount) rest h =
     read_form_front put_form (session ∷ (bytes_high_first 2 key ++ kind ∷ bytes_high_first 4 amount)) rest refl
     ∙ (let k = two_read key h.1 in let a = four_read amount h.3 in cc)
 bytes_of-read (Get session key) rest h =
-    read_form_front get_form (session ∷ bytes_high_first 2 key) rest refl ∙ ap (λ k. Ok (Get session k, rest)) (two_read key h.1)
-bytes_of-read (Heartbeat site partition) rest h = read_form_front (server_form Heartbeat) (site ∷ partition ∷ []) rest refl
+    read_form_front get_form (session ∷ bytes_high_first 2 key) rest refl
+    ∙ ap (λ k. Ok (Get session k, rest)) (two_read key h.1)
+bytes_of-read (Heartbeat site partition) rest h =
+    read_form_front (server_form Heartbeat) (site ∷ partition ∷ []) rest refl
 bytes_of-read (Deliver from to partition) rest h = read_form_front deliver_form (from ∷ to ∷ partition ∷ []) rest refl
 bytes_of-read (Report site partition) rest h = read_form_front (server_form Report) (site ∷ partition ∷ []) rest refl
-bytes_of-read (Stabilise site partition) rest h = read_form_front (server_form Stabilise) (site ∷ partition ∷ []) rest refl
+bytes_of-read (Stabilise site partition) rest h =
+    read_form_front (server_form Stabilise) (site ∷ partition ∷ []) rest refl
 bytes_of-read (Tidy site partition) rest h = read_form_front (server_form Tidy) (site ∷ partition ∷ []) rest refl
 bytes_of-read (Lead site partition) rest h = read_form_front (server_form Lead) (site ∷ partition ∷ []) rest refl
 bytes_of-read (View session partition first second) rest h =
@@ -125,7 +128,8 @@ form_writes letter =
 abbrev WasWritten : List ℕ → Command × List ℕ → Type 0
 WasWritten bytes p = OperandsFit p.0 × (bytes ≡ bytes_of p.0 ++ p.1)
 
-read_form_written : (letter : ℕ) (f : Form) (bytes : List ℕ) (p : Command × List ℕ) → WritesBack letter f → BytesAt bytes
+read_form_written : (letter : ℕ) (f : Form) (bytes : List ℕ) (p : Command × List ℕ) → WritesBack letter f
+    → BytesAt bytes
     → read_form f bytes ≡ Ok p → WasWritten (letter ∷ bytes) p
 read_form_written letter f bytes p writes h e =
     let ok = read_form_ok f bytes p e in

@@ -17,7 +17,8 @@ use Rattle.script.specs.Counting.{goes_on, rest_after, rest_of_read}
 use Rattle.script.specs.Scripts.{ScriptState, new_script, lines_after, lines_from, next_at, counted_line, next_answer}
 use Rattle.script.specs.Scripts.{after_read, after_obey}
 use Rattle.script.proofs.NextAnswers.{new_script_within, length-new_script}
-use Rattle.script.specs.ScriptGroups.{ScriptGroup, no_group, some_group, clock_of, marks_of, make_group, obey, answer_of_making}
+use Rattle.script.specs.ScriptGroups.{ScriptGroup, no_group, some_group, clock_of, marks_of, make_group, obey}
+use Rattle.script.specs.ScriptGroups.{answer_of_making}
 
 -- whether a group was made
 abbrev pub has_group : ScriptGroup → Bool
@@ -69,7 +70,8 @@ some_group_follows : (s : ScriptState ScriptGroup) (rest : List ℕ) (clock : Cl
 some_group_follows s rest clock marks g (Layout sites partitions c m) = record { rest = refl; goes_on_lem = λ n. refl }
 some_group_follows s rest clock marks g command = record { rest = refl; goes_on_lem = λ n. refl }
 
-pub step_follows : (s : ScriptState ScriptGroup) → Follows (rest_after (has_group s.group) s.rest) (next_answer obey s).1
+pub step_follows : (s : ScriptState ScriptGroup)
+    → Follows (rest_after (has_group s.group) s.rest) (next_answer obey s).1
 step_follows s = by_read (read_command s.rest)
   where
     obeys : (st : ScriptGroup) (command : Command) (rest : List ℕ)
@@ -77,12 +79,14 @@ step_follows s = by_read (read_command s.rest)
     obeys no_group command rest = no_group_follows s rest (make_group command) (make_group_has_group command)
     obeys (some_group clock marks g) command rest = some_group_follows s rest clock marks g command
 
-    by_read : (r : Result (Command × List ℕ) Refusal) → Follows (rest_of_read (has_group s.group) r) (after_read obey s r).1
+    by_read : (r : Result (Command × List ℕ) Refusal)
+        → Follows (rest_of_read (has_group s.group) r) (after_read obey s r).1
     by_read (Err why) = record { rest = refl; goes_on_lem = λ n. none_left (has_group s.group) n }
     by_read (Ok (command, rest)) = obeys s.group command rest
 
 -- the listing has as many lines as the commands alone say
-pub lines_count : (n : ℕ) (s : ScriptState ScriptGroup) → length (lines_from n s) ≡ count_from n (has_group s.group) s.rest
+pub lines_count : (n : ℕ) (s : ScriptState ScriptGroup)
+    → length (lines_from n s) ≡ count_from n (has_group s.group) s.rest
 lines_count zero s = refl
 lines_count (suc n) s = by_rest s.rest refl (lines_count n)
   where
@@ -94,13 +98,15 @@ lines_count (suc n) s = by_rest s.rest refl (lines_count n)
     by_rest (b ∷ bytes) e more =
         let after = (counted_line b (next_answer obey s)).1 in
         let f = step_follows s in
-        ap (λ k. suc k) (more after ∙ f.goes_on_lem n ∙ ap (count_from n true) (f.rest ∙ ap (rest_after (has_group s.group)) e))
+        ap (λ k. suc k) (more after ∙ f.goes_on_lem n
+        ∙ ap (count_from n true) (f.rest ∙ ap (rest_after (has_group s.group)) e))
 
 -- what is left after a command is shorter
 pub rest_shorter : (m : Bool) (bytes : List ℕ) → 0 < length bytes → length (rest_after m bytes) < length bytes
 rest_shorter m bytes some = by_read (read_command bytes) refl
   where
-    by_read : (r : Result (Command × List ℕ) Refusal) → r ≡ read_command bytes → length (rest_of_read m r) < length bytes
+    by_read : (r : Result (Command × List ℕ) Refusal) → r ≡ read_command bytes
+        → length (rest_of_read m r) < length bytes
     by_read (Err why) e = some
     by_read (Ok (command, rest)) e = cond_both (goes_on m command) rest [] (λ left. length left < length bytes)
         (λ _. read_shorter bytes (command, rest) e) (λ _. some)
@@ -125,7 +131,8 @@ count_turn m [] left some e = absurd (omega arith)
 count_turn m (b ∷ bytes) left some e =
     let less = rest_shorter m (b ∷ bytes) some in
     let same = ap length e in
-    let enough = count_enough (length bytes) (length left) true (rest_after m (b ∷ bytes)) (omega arith) (omega arith) in
+    let enough =
+    count_enough (length bytes) (length left) true (rest_after m (b ∷ bytes)) (omega arith) (omega arith) in
     omega (arith, enough, ap (count_from (length left) true) e)
 
 -- no more lines than bytes

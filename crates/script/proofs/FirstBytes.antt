@@ -18,7 +18,11 @@ listing_same bytes =
 
 pub law_same : (bytes text : List ℕ) → IsListing (script_of bytes) text → IsListing bytes text
 law_same bytes text law = record {
-  every = (law.every.0, law.every.1, subst (λ script. IsScript script law.every.0 law.every.1) (same_bytes bytes) law.every.2);
+  every = (
+    law.every.0,
+    law.every.1,
+    subst (λ script. IsScript script law.every.0 law.every.1) (same_bytes bytes) law.every.2,
+  );
   lines = λ commands rest is. law.lines commands rest
       (subst (λ script. IsScript script commands rest) (sym (same_bytes bytes)) is);
 }

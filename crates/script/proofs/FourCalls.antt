@@ -19,10 +19,12 @@ use Rattle.script.specs.CommandCalls.{view_both, view_by}
 pub four_calls : (rule : Rule) (k : Kind) (before opened once twice after : GroupState)
     (session partition first second : ℕ) (t : Ticket)
     (a b : Result (Option Shown) Refusal) (c : Result Done Refusal)
-    → (Ok t, opened) ≡ step rule k before (open_snapshot session partition) → (a, once) ≡ step rule k opened (read t first)
+    → (Ok t, opened) ≡ step rule k before (open_snapshot session partition)
+    → (a, once) ≡ step rule k opened (read t first)
     → (b, twice) ≡ step rule k once (read t second) → (c, after) ≡ step rule k twice (close t)
     → (Both a b, after) ≡ view_both rule k before session partition first second
-four_calls rule k before opened once twice after session partition first second t a b c opens reads_first reads_second closes =
+four_calls rule k before opened once twice after session partition first second t a b c opens reads_first reads_second
+    closes =
     let then : Result (Option Shown) Refusal × GroupState → Answer × GroupState = λ one.
     let two = step rule k one.1 (read t second) in
     (Both one.0 two.0, (step rule k two.1 (close t)).1)
@@ -38,13 +40,15 @@ show_seats k g i None = refl
 show_seats k g i (Some v) = refl
 
 -- a read leaves the seats
-read_seats : (rule : Rule) (k : Kind) (g : GroupState) (t : Ticket) (key : ℕ) → (step rule k g (read t key)).1.seats ≡ g.seats
+read_seats : (rule : Rule) (k : Kind) (g : GroupState) (t : Ticket) (key : ℕ)
+    → (step rule k g (read t key)).1.seats ≡ g.seats
 read_seats rule k g t key = by_seat (seat_at g t.seat)
   where
     raised : SeatState → GroupState
     raised y =
         let x = session_at g y.session in
-        with_server g x.site (partition_of g key) (server_raise k (g.server x.site (partition_of g key)) (k.floor y.cut))
+        with_server g x.site (partition_of g key)
+        (server_raise k (g.server x.site (partition_of g key)) (k.floor y.cut))
 
     shown : SeatState → Result (Option Shown) Refusal × GroupState
     shown y =
@@ -61,7 +65,8 @@ read_seats rule k g t key = by_seat (seat_at g t.seat)
     by_seat (Some y) = by_test y (eqb y.serial t.serial)
 
 -- what is open stays open over a read
-pub stays_open : (rule : Rule) (k : Kind) (g after : GroupState) (t u : Ticket) (key : ℕ) (a : Result (Option Shown) Refusal)
+pub stays_open : (rule : Rule) (k : Kind) (g after : GroupState) (t u : Ticket) (key : ℕ)
+    (a : Result (Option Shown) Refusal)
     → (a, after) ≡ step rule k g (read u key) → HasOpen g t → HasOpen after t
 stays_open rule k g after t u key a reads h =
     let same : after.seats ≡ g.seats = ap (λ (o : Result (Option Shown) Refusal × GroupState). o.1.seats) reads

@@ -28,12 +28,14 @@ pub next_shorter : (s after : ScriptState ScriptGroup) (line : List ℕ) → nex
     → length after.rest < length s.rest
 next_shorter s after line e = go s.rest refl e
   where
-    go : (bytes : List ℕ) → s.rest ≡ bytes → next_at obey s bytes ≡ Some (line, after) → length after.rest < length s.rest
+    go : (bytes : List ℕ) → s.rest ≡ bytes → next_at obey s bytes ≡ Some (line, after)
+        → length after.rest < length s.rest
     go [] is e' = absurd cc
     go (b ∷ bytes) is e' =
         let f = step_follows s in
         let same : counted_line b (next_answer obey s) ≡ (line, after) = cc in
-        let rest : (next_answer obey s).1.rest ≡ after.rest = ap (λ (o : List ℕ × ScriptState ScriptGroup). o.1.rest) same in
+        let rest : (next_answer obey s).1.rest ≡ after.rest =
+        ap (λ (o : List ℕ × ScriptState ScriptGroup). o.1.rest) same in
         let less = rest_shorter (has_group s.group) s.rest (rw is (omega arith)) in
         omega (arith, ap length rest, ap length f.rest)
 
@@ -44,7 +46,8 @@ lines_enough zero zero s hn hm = refl
 lines_enough zero (suc m) s hn hm = sym (ap (lines_after (lines_from m)) (next_none s (omega arith)))
 lines_enough (suc n) zero s hn hm = ap (lines_after (lines_from n)) (next_none s (omega arith))
 lines_enough (suc n) (suc m) s hn hm =
-    go (next obey s) refl (λ line t e. let less = next_shorter s t line e in lines_enough n m t (omega arith) (omega arith))
+    go (next obey s) refl (λ line t e. let less = next_shorter s t line e in
+    lines_enough n m t (omega arith) (omega arith))
   where
     go : (o : Option (List ℕ × ScriptState ScriptGroup)) → next obey s ≡ o
         → ((line : List ℕ) (t : ScriptState ScriptGroup) → next obey s ≡ Some (line, t)
@@ -112,8 +115,10 @@ pub put_at : (buffer line left : List ℕ) (end len k : ℕ) → end ≤ length 
     → len ≡ length line → left ≡ line ++ drop len (take k (drop end buffer))
     → put_mid end k buffer left ≡ (take end buffer ++ line) ++ drop (end + len) buffer
 put_at buffer line left end len k within room long stands =
-    let all : take k (drop end buffer) ≡ drop end buffer = ap (λ n. take n (drop end buffer)) (sym room) ∙ take_rest buffer end in
-    let none : drop k (drop end buffer) ≡ [] = drop_all k (drop end buffer) (let e = length-drop end buffer in omega arith) in
+    let all : take k (drop end buffer) ≡ drop end buffer = ap (λ n. take n (drop end buffer)) (sym room)
+    ∙ take_rest buffer end in
+    let none : drop k (drop end buffer) ≡ [] =
+    drop_all k (drop end buffer) (let e = length-drop end buffer in omega arith) in
     let rest : left ≡ line ++ drop (end + len) buffer = stands ∙ ap (λ xs. line ++ drop len xs) all
     ∙ ap (λ xs. line ++ xs) (drop-drop len end buffer) in
     ap (λ xs. take end buffer ++ (left ++ xs)) none ∙ ap (λ xs. take end buffer ++ xs) (append-nil left ∙ rest)
@@ -141,7 +146,8 @@ put_drop buffer line left end len k within room long stands =
 pub lines_some : (s : ScriptState ScriptGroup) → 0 < length s.rest → 1 ≤ length (lines_left s)
 lines_some s some = go (length s.rest) refl
   where
-    by_rest : (n : ℕ) (bytes : List ℕ) → 0 < length bytes → 1 ≤ length (lines_after (lines_from n) (next_at obey s bytes))
+    by_rest : (n : ℕ) (bytes : List ℕ) → 0 < length bytes
+        → 1 ≤ length (lines_after (lines_from n) (next_at obey s bytes))
     by_rest n [] h = absurd (omega arith)
     by_rest n (b ∷ bytes) h = omega arith
 

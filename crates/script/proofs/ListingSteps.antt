@@ -16,19 +16,23 @@ use Rattle.script.specs.declared.answer.Answer.{Answer}
 use Rattle.script.specs.declared.answer.Answer.TheVariants.{Done}
 use Rattle.script.specs.Lines.{line_of}
 use Rattle.script.specs.Listings.{GoesOnAsScript, after_layout, as_script, line_as_script}
-use Rattle.script.specs.Scripts.{Obey, ScriptState, new_script, next, next_at, counted_line, next_answer, after_read, after_obey}
+use Rattle.script.specs.Scripts.{Obey, ScriptState, new_script, next, next_at, counted_line, next_answer, after_read}
+use Rattle.script.specs.Scripts.{after_obey}
 use Rattle.script.specs.CommandCalls.{perform}
 use Rattle.script.specs.ScriptGroups.{ScriptGroup, clock_rule_of, as_some_group, some_group, make_group, mark_kind_of}
 use Rattle.script.specs.ScriptGroups.{obey, answer_of_making}
 use Rattle.script.proofs.NextAnswers.{next_is, read_obeyed}
 
 -- after its layout a script stands where the listing over the group that was made begins
-begins : (sites partitions clock_letter marks_letter : ℕ) (bytes : List ℕ) (clock : Clock) (marks : Marks) (g : GroupState) →
+begins : (sites partitions clock_letter marks_letter : ℕ) (bytes : List ℕ) (clock : Clock) (marks : Marks)
+    (g : GroupState) →
     let layout = Layout sites partitions clock_letter marks_letter in
     OperandsFit layout → make_group layout ≡ Ok (some_group clock marks g)
-    → next obey (new_script (bytes_of layout ++ bytes)) ≡ Some (line_of 1 76 Done, as_script clock marks (after_layout g bytes))
+    → next obey (new_script (bytes_of layout ++ bytes))
+    ≡ Some (line_of 1 76 Done, as_script clock marks (after_layout g bytes))
 begins sites partitions clock_letter marks_letter bytes clock marks g fits makes =
-    sym (next_is obey s 76 (omega (arith, long)) (ap (λ r. get_or r 0 0) is)) ∙ ap (λ o. Some (counted_line 76 o)) (sym step)
+    sym (next_is obey s 76 (omega (arith, long)) (ap (λ r. get_or r 0 0) is))
+    ∙ ap (λ o. Some (counted_line 76 o)) (sym step)
   where
     layout : Command
     layout = Layout sites partitions clock_letter marks_letter

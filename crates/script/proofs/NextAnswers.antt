@@ -1,16 +1,19 @@
 -- Steps of a script, over whatever obeys its commands.
-use Rattle.std.proofs.Common.{◌≡◌, ℕ, ◌<◌, ◌≤◌, List, [], ◌∷◌, length, get_or, Some, Ok, Err, Result, sym, refl, ap, ◌∙◌, arith}
+use Rattle.std.proofs.Common.{◌≡◌, ℕ, ◌<◌, ◌≤◌, List, [], ◌∷◌, length, get_or, Some, Ok, Err, Result, sym, refl, ap}
+use Rattle.std.proofs.Common.{◌∙◌, arith}
 use Rattle.std.proofs.lemmas.List.{length-take}
 use Rattle.stamps.specs.declared.refusal.Refusal.{Refusal}
 use Rattle.script.specs.declared.command.Command.{Command}
 use Rattle.script.specs.Commands.{read_command}
 use Rattle.script.specs.declared.answer.Answer.{Answer}
-use Rattle.script.specs.Scripts.{Obey, ScriptState, new_script, next, next_at, counted_line, next_answer, after_read, after_obey}
+use Rattle.script.specs.Scripts.{Obey, ScriptState, new_script, next, next_at, counted_line, next_answer, after_read}
+use Rattle.script.specs.Scripts.{after_obey}
 
 module _ {S : Type 0} (act : Obey S) (s : ScriptState S) where
   -- a command that was read and obeyed is the step
   pub read_obeyed : (command : Command) (rest : List ℕ) (outcome : Result Answer Refusal × S)
-      → Ok (command, rest) ≡ read_command s.rest → outcome ≡ act s.group command → after_obey s rest outcome ≡ next_answer act s
+      → Ok (command, rest) ≡ read_command s.rest → outcome ≡ act s.group command
+      → after_obey s rest outcome ≡ next_answer act s
   read_obeyed command rest outcome reads obeys = ap (after_obey s rest) obeys ∙ ap (after_read act s) reads
 
   -- a step counts no line

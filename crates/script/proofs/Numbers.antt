@@ -47,7 +47,8 @@ pub six_read : (n : ℕ) → n < 2 ^ 48
 six_read n h = omega arith
 
 -- a number that is read from bytes is in its range, and they are its bytes
-pub two_written : (a b : ℕ) → AreBytes (a ∷ b ∷ []) → (a * 256 + b < 2 ^ 16) × (bytes_high_first 2 (a * 256 + b) ≡ a ∷ b ∷ [])
+pub two_written : (a b : ℕ) → AreBytes (a ∷ b ∷ [])
+    → (a * 256 + b < 2 ^ 16) × (bytes_high_first 2 (a * 256 + b) ≡ a ∷ b ∷ [])
 two_written a b h = (omega arith, be_bytes_2 (a ∷ b ∷ []) (a * 256 + b) refl (each_byte (a ∷ b ∷ []) h) (omega arith))
 
 pub four_written : (a b c d : ℕ) → AreBytes (a ∷ b ∷ c ∷ d ∷ [])
@@ -59,7 +60,8 @@ four_written a b c d h =
 
 pub six_written : (a b c d e f : ℕ) → AreBytes (a ∷ b ∷ c ∷ d ∷ e ∷ f ∷ [])
     → ((a * 256 + b) * 4294967296 + ((c * 256 + d) * 65536 + (e * 256 + f)) < 2 ^ 48)
-    × (bytes_high_first 6 ((a * 256 + b) * 4294967296 + ((c * 256 + d) * 65536 + (e * 256 + f))) ≡ a ∷ b ∷ c ∷ d ∷ e ∷ f ∷ [])
+    × (bytes_high_first 6 ((a * 256 + b) * 4294967296 + ((c * 256 + d) * 65536 + (e * 256 + f)))
+    ≡ a ∷ b ∷ c ∷ d ∷ e ∷ f ∷ [])
 six_written a b c d e f h =
     let all = 0 ∷ 0 ∷ a ∷ b ∷ c ∷ d ∷ e ∷ f ∷ [] in
     let n = (a * 256 + b) * 4294967296 + ((c * 256 + d) * 65536 + (e * 256 + f)) in

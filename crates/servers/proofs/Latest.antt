@@ -48,7 +48,8 @@ module _ (test : Version → Bool) (key : ℕ) where
 
   -- v does not take the place of what was found
   passed_over : (found : Option Version) (v : Version) (vs : List Version) (r : Option Version)
-      → ((a : Version) → found ≡ Some a → Passes test key v → IsAsLateVersion a v) → (found ≡ None → Passes test key v → ⊥)
+      → ((a : Version) → found ≡ Some a → Passes test key v → IsAsLateVersion a v)
+      → (found ≡ None → Passes test key v → ⊥)
       → Outcome found vs r → Outcome found (v ∷ vs) r
   passed_over found v vs None worse never o =
       (o.0, λ w i p. ⊎_elim (λ e. never o.0 (subst (Passes test key) e p)) (λ j. o.1 w j p) i)

@@ -73,10 +73,13 @@ full_is own sites es left others needed =
     full_of p q r s left n z e = grind (arith, nat_tests, cases_Bool p, cases_Bool q, cases_Bool r, cases_Bool s)
 
 -- one entry more, for a site that takes it or not
-push_for : (o : Bool) (es : List Entry) (e : Entry) (l l' : ℕ) → l ≤ length es → (o ≡ false → l ≡ 0) → l' ≡ l + cond o 1 0
-    → drop (length (es ++ e ∷ []) - l') (es ++ e ∷ []) ≡ cond o (drop (length es - l) es ++ e ∷ []) (drop (length es - l) es)
+push_for : (o : Bool) (es : List Entry) (e : Entry) (l l' : ℕ) → l ≤ length es → (o ≡ false → l ≡ 0)
+    → l' ≡ l + cond o 1 0
+    → drop (length (es ++ e ∷ []) - l') (es ++ e ∷ [])
+    ≡ cond o (drop (length es - l) es ++ e ∷ []) (drop (length es - l) es)
 push_for true es e l l' h none is = ap (λ m. drop (length (es ++ e ∷ []) - m) (es ++ e ∷ [])) is ∙ last_push es e l h
-push_for false es e l l' h none is = let z = none refl in last_none (es ++ e ∷ []) l' (omega arith) ∙ sym (last_none es l z)
+push_for false es e l l' h none is = let z = none refl in last_none (es ++ e ∷ []) l' (omega arith)
+    ∙ sym (last_none es l z)
 
 past_other : (own sites n : ℕ) → sites ≤ 4 → is_other own sites (suc (suc (suc (suc n)))) ≡ false
 past_other own sites n h = grind (arith, nat_tests)
@@ -90,7 +93,8 @@ pub issue_queues : (own sites : ℕ) (es : List Entry) (e : Entry) (left : PerSi
     → IsOthersOnly own sites left → greatest left ≡ length es
     → last_for (es ++ e ∷ []) (one_more own sites left) ≡ issue_entry own sites (last_for es left) e
 issue_queues own sites es e left few others needed =
-    fun_ext (by_site (λ i. last_for (es ++ e ∷ []) (one_more own sites left) i ≡ issue_entry own sites (last_for es left) e i)
+    fun_ext (by_site (λ i. last_for (es ++ e ∷ []) (one_more own sites left) i
+    ≡ issue_entry own sites (last_for es left) e i)
     (push_for (is_other own sites 0) es e left.site0 _ (omega arith) others.0 refl)
     (push_for (is_other own sites 1) es e left.site1 _ (omega arith) others.1 refl)
     (push_for (is_other own sites 2) es e left.site2 _ (omega arith) others.2 refl)
@@ -108,7 +112,8 @@ some_other : (own sites : ℕ) → 2 ≤ sites → (is_other own sites 0 || is_o
 some_other own sites h = grind (arith, nat_tests)
 
 longest : (p q r s : Bool) (left : PerSite) (n : ℕ) → (p || q) ≡ true
-    → (p ≡ false → left.site0 ≡ 0) × (q ≡ false → left.site1 ≡ 0) × (r ≡ false → left.site2 ≡ 0) × (s ≡ false → left.site3 ≡ 0)
+    → (p ≡ false → left.site0 ≡ 0) × (q ≡ false → left.site1 ≡ 0) × (r ≡ false → left.site2 ≡ 0)
+    × (s ≡ false → left.site3 ≡ 0)
     → greatest left ≡ n
     → greatest (record {
       site0 = left.site0 + cond p 1 0;
@@ -118,7 +123,8 @@ longest : (p q r s : Bool) (left : PerSite) (n : ℕ) → (p || q) ≡ true
     }) ≡ n + 1
 longest p q r s left n o z e = grind (arith, cases_Bool p, cases_Bool q, cases_Bool r, cases_Bool s)
 
-pub issue_counts : (own sites : ℕ) (left : PerSite) (n : ℕ) → 2 ≤ sites → IsOthersOnly own sites left → greatest left ≡ n
+pub issue_counts : (own sites : ℕ) (left : PerSite) (n : ℕ) → 2 ≤ sites → IsOthersOnly own sites left
+    → greatest left ≡ n
     → IsOthersOnly own sites (one_more own sites left) × (greatest (one_more own sites left) ≡ n + 1)
 issue_counts own sites left n some others needed = (
   (
@@ -132,10 +138,12 @@ issue_counts own sites left n some others needed = (
 )
 
 -- after a take: one fewer for the taker
-taken_for : (taker i : ℕ) (es : List Entry) (l l' : ℕ) → l ≤ length es → (i ≡ taker → l' ≡ l - 1) → ((i ≡ taker → ⊥) → l' ≡ l)
+taken_for : (taker i : ℕ) (es : List Entry) (l l' : ℕ) → l ≤ length es → (i ≡ taker → l' ≡ l - 1)
+    → ((i ≡ taker → ⊥) → l' ≡ l)
     → drop (length es - l') es ≡ cond (eqb i taker) (drop 1 (drop (length es - l) es)) (drop (length es - l) es)
 taken_for taker i es l l' h same other =
-    cond_both (eqb i taker) (drop 1 (drop (length es - l) es)) (drop (length es - l) es) (λ t. drop (length es - l') es ≡ t)
+    cond_both (eqb i taker) (drop 1 (drop (length es - l) es)) (drop (length es - l) es)
+    (λ t. drop (length es - l') es ≡ t)
     (λ e. last_less es l l' (same (eqb-true i taker e)) h)
     (λ e. ap (λ m. drop (length es - m) es) (other (eqb-false i taker e)))
 
@@ -167,7 +175,8 @@ kept_queues es left h =
 last_at : (es : List Entry) (left : PerSite) (i : ℕ) → i < 4 → last_for es left i ≡ drop (length es - at left i) es
 last_at es left i h = cond-true (ltb i 4) (drop (length es - at left i) es) [] (lt-ltb i 4 h)
 
-pub next_none : (es : List Entry) (left : PerSite) (i : ℕ) → i < 4 → at left i ≡ 0 → None ≡ next_for (last_for es left) i
+pub next_none : (es : List Entry) (left : PerSite) (i : ℕ) → i < 4 → at left i ≡ 0
+    → None ≡ next_for (last_for es left) i
 next_none es left i h z = sym (ap first (last_at es left i h ∙ last_none es (at left i) z))
 
 pub next_some : (es : List Entry) (left : PerSite) (i : ℕ) (d : Entry) → i < 4 → 0 < at left i → at left i ≤ length es
@@ -185,8 +194,10 @@ take_queues taker es left few needed = take_is taker es left (fewer left taker) 
     (λ i l ne. at_other left i taker (at left taker - 1) l ne)
 
 -- each count is at most what it was, and one of them is one less
-pub fewer_counts : (own sites taker : ℕ) (left : PerSite) (n : ℕ) → taker < 4 → IsOthersOnly own sites left → greatest left ≡ n
-    → IsOthersOnly own sites (fewer left taker) × (greatest (fewer left taker) ≤ n) × (n ≤ greatest (fewer left taker) + 1)
+pub fewer_counts : (own sites taker : ℕ) (left : PerSite) (n : ℕ) → taker < 4 → IsOthersOnly own sites left
+    → greatest left ≡ n
+    → IsOthersOnly own sites (fewer left taker) × (greatest (fewer left taker) ≤ n)
+    × (n ≤ greatest (fewer left taker) + 1)
 fewer_counts own sites taker left n few others needed =
     by_site (λ t. t < 4 → IsOthersOnly own sites (fewer left t) × (greatest (fewer left t) ≤ n)
     × (n ≤ greatest (fewer left t) + 1))

@@ -134,10 +134,12 @@ module _ (rule : Rule) (lawful : IsLawfulRule rule) (k : Kind) (site : ℕ) (few
       (λ _. receive_sound (run_without_stamp l (server_keep l.server v)) from v.stamp other
       (quiet_sound l (server_keep l.server v) refl refl refl h))
 
-  take_sound : (l : ServerRun) (from : ℕ) (e : Entry) → Sound site l → Sound site (run_after rule k l (take_from from e))
+  take_sound : (l : ServerRun) (from : ℕ) (e : Entry) → Sound site l
+      → Sound site (run_after rule k l (take_from from e))
   take_sound l from e h =
       cond_both (is_other l.server.site l.server.sites from) _ _ (SoundAfter l)
-      (λ other. other_sound l from e (λ is. other_apart l.server.site l.server.sites from other (sym is ∙ sym h.here)) h) (λ _. h)
+      (λ other. other_sound l from e (λ is. other_apart l.server.site l.server.sites from other (sym is ∙ sym h.here))
+      h) (λ _. h)
 
   call_sound : (l : ServerRun) (c : ServerCall) → HasStampMarks c → Sound site l → Sound site (run_after rule k l c)
   call_sound l (tell time) ok h = tell_sound l time h
@@ -159,7 +161,8 @@ module _ (rule : Rule) (lawful : IsLawfulRule rule) (k : Kind) (site : ℕ) (few
 
   run_sound : (sites : ℕ) → site < sites → (calls : List ServerCall)
       → ((c : ServerCall) → InList c calls → HasStampMarks c) → Sound site (server_run rule k site sites calls)
-  run_sound sites within [] ok = record { here = refl; reading = omega arith; rise = tt; last = first_none sites within }
+  run_sound sites within [] ok =
+      record { here = refl; reading = omega arith; rise = tt; last = first_none sites within }
   run_sound sites within (c ∷ cs) ok = call_sound (server_run rule k site sites cs) c (ok c (inl refl))
       (run_sound sites within cs (λ d i. ok d (inr i)))
 

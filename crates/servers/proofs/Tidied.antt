@@ -1,7 +1,8 @@
 -- Tidying keeps what has to stay, and drops only what a version that stays stands in for.
 use Rattle.std.proofs.Common.{◌≡◌, Bool, true, false, cond, not, ◌&&◌, eqb, ◌⊎◌, List, [], ◌∷◌, Contains, Some, None}
 use Rattle.std.proofs.Common.{Option, sym, refl, ap, ◌∙◌, subst, inl, inr, ⊎_elim, arith, filter}
-use Rattle.std.proofs.lemmas.Bool.{and_from, and_parts, cases_Bool, eq-eqb, eqb-true, false≢true, or_cases, or_left, or_right}
+use Rattle.std.proofs.lemmas.Bool.{and_from, and_parts, cases_Bool, eq-eqb, eqb-true, false≢true, or_cases, or_left}
+use Rattle.std.proofs.lemmas.Bool.{or_right}
 use Rattle.std.proofs.lemmas.List.Filters.{length-filter_both}
 use Rattle.stamps.specs.Kinds.{Kind}
 use Rattle.stamps.specs.Rows.{PerSite}
@@ -54,7 +55,8 @@ module _ (k : Kind) (safe : PerSite) where
   by_from v w r = and_from (eqb w.key v.key) (is_later w v && is_covered k safe w) (eq-eqb w.key v.key r.0)
       (and_from (is_later w v) (is_covered k safe w) (later_from w v r.2) r.1)
 
-  outdated_gives : (vs : List Version) (v : Version) → is_outdated k safe vs v ≡ true → (w : Version) × InList w vs × Replaces w v
+  outdated_gives : (vs : List Version) (v : Version) → is_outdated k safe vs v ≡ true
+      → (w : Version) × InList w vs × Replaces w v
   outdated_gives [] v e = absurd (false≢true e)
   outdated_gives (w ∷ ws) v e =
       ⊎_elim (λ h. (w, inl refl, by_gives v w h)) (λ h. let r = outdated_gives ws v h in (r.0, inr r.1, r.2))

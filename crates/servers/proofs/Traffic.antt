@@ -31,7 +31,8 @@ taken_all t q s e = (
       no_length q (omega arith),
 )
 
-is_queue : (own sites : ℕ) (t : Traffic) → ((site : ℕ) → is_other own sites site ≡ true → t.taken site ++ t.queues site ≡ t.sent)
+is_queue : (own sites : ℕ) (t : Traffic) → ((site : ℕ) → is_other own sites site ≡ true
+    → t.taken site ++ t.queues site ≡ t.sent)
     → ((site : ℕ) → is_other own sites site ≡ true → length (t.queues site) ≤ 16)
     → ((site : ℕ) → is_other own sites site ≡ false → t.queues site ≡ []) → IsQueue own sites t
 is_queue own sites t whole short none =
@@ -45,7 +46,8 @@ is_queue own sites t whole short none =
 -- an outbox that is not full has room for every other site
 has_room : (own sites : ℕ) (w : Queues) (site : ℕ) → is_queue_full own sites w site ≡ false
     → is_other own sites site ≡ true → length (w site) < 16
-has_room own sites w site free other = leb-false 16 (length (w site)) (ap (λ b. b && leb 16 (length (w site))) (sym other) ∙ free)
+has_room own sites w site free other =
+    leb-false 16 (length (w site)) (ap (λ b. b && leb 16 (length (w site))) (sym other) ∙ free)
 
 room : (own sites : ℕ) (w : Queues) (site : ℕ) → sites ≤ 4 → is_outbox_full own sites w ≡ false
     → is_other own sites site ≡ true → length (w site) < 16
@@ -67,13 +69,15 @@ issue_keeps own sites t e few free h =
     ∙ sym (append_assoc (t.taken site) (t.queues site) (e ∷ [])) ∙ ap (λ s. s ++ e ∷ []) (h.whole site other))
     (λ site other. let l = ap length (more site other)
     ∙ length-append (t.queues site) (e ∷ []) in let r = room own sites t.queues site few free other in omega arith)
-    (λ site other. cond-false (is_other own sites site) (t.queues site ++ e ∷ []) (t.queues site) other ∙ h.none site other)
+    (λ site other. cond-false (is_other own sites site) (t.queues site ++ e ∷ []) (t.queues site) other
+    ∙ h.none site other)
   where
     more : (site : ℕ) → is_other own sites site ≡ true → issue_entry own sites t.queues e site ≡ t.queues site ++ e ∷ []
     more site other = cond-true (is_other own sites site) (t.queues site ++ e ∷ []) (t.queues site) other
 
 -- what a take leaves for a site, by whether it is the taker
-take_whole : (b : Bool) (t q s : List Entry) → t ++ q ≡ s → cond b (t ++ option_to_list (first q)) t ++ cond b (drop 1 q) q ≡ s
+take_whole : (b : Bool) (t q s : List Entry) → t ++ q ≡ s
+    → cond b (t ++ option_to_list (first q)) t ++ cond b (drop 1 q) q ≡ s
 take_whole true t q s e = taken_whole t q ∙ e
 take_whole false t q s e = e
 

@@ -14,12 +14,14 @@ first_read (Some input) limit before script is none reads = rw (is, none) at rea
 
 -- their listing is that of all
 pub listing_read : (known : Option (List ℕ)) (script text : List ℕ)
-    → IfSome known (λ input. script ≡ script_of input) → text ≡ listing script → IfSome known (λ input. text ≡ listing input)
+    → IfSome known (λ input. script ≡ script_of input) → text ≡ listing script
+    → IfSome known (λ input. text ≡ listing input)
 listing_read None script text reads lists = tt
 listing_read (Some input) script text reads lists = lists ∙ ap listing reads ∙ listing_same input
 
 -- and so is its law
 pub law_read : (known : Option (List ℕ)) (script text : List ℕ)
-    → IfSome known (λ input. script ≡ script_of input) → IsListing script text → IfSome known (λ input. IsListing input text)
+    → IfSome known (λ input. script ≡ script_of input) → IsListing script text
+    → IfSome known (λ input. IsListing input text)
 law_read None script text reads law = tt
 law_read (Some input) script text reads law = law_same input text (subst (λ bytes. IsListing bytes text) reads law)

@@ -143,7 +143,8 @@ pub rises_same : (t : ℕ → ℕ → PerSite) → Rises t t
 rises_same t s n = covers_self (t s n)
 
 pub rises_set : (t : ℕ → ℕ → PerSite) (s n : ℕ) (m : PerSite) → Covers m (t s n) → Rises t (set2 t s n m)
-rises_set t s n m c s' n' = set2_cases t s n m s' n' (λ x. Covers x (t s' n')) (λ e f. rw (e, f) c) (λ _. covers_self (t s' n'))
+rises_set t s n m c s' n' =
+    set2_cases t s n m s' n' (λ x. Covers x (t s' n')) (λ e f. rw (e, f) c) (λ _. covers_self (t s' n'))
 
 pub grown_same : (opened : ℕ) (t : ℕ → SessionState) → Grown opened t t
 grown_same opened t i l = (refl, covers_self (t i).depends, covers_self (t i).knows)
@@ -154,7 +155,8 @@ grown_set opened t i x a b c j l =
     set1_cases t i x j (λ y. (y.site ≡ (t j).site) × Covers y.depends (t j).depends × Covers y.knows (t j).knows)
     (λ e. rw e (a, b, c)) (λ _. grown_same opened t j l)
 
-pub had_rises : (L : Shape) {old new : ℕ → ℕ → PerSite} (s : ℕ) (v : Version) → Rises old new → Had L old s v → Had L new s v
+pub had_rises : (L : Shape) {old new : ℕ → ℕ → PerSite} (s : ℕ) (v : Version) → Rises old new → Had L old s v
+    → Had L new s v
 had_rises L {old} {new} s v r h =
     le_trans h (covers_at (new s (part L v.key)) (old s (part L v.key)) v.source (r s (part L v.key)))
 
@@ -213,7 +215,8 @@ module _ {k : Kind} {L : Shape} where
     of_put_lem = λ u p q. before_rises r sub st (h.of_put_lem u p q);
   }
 
-  pub holds_safer : {received : ℕ → ℕ → PerSite} {held : ℕ → ℕ → List Version} {safe safe' : ℕ → PerSite} {log : List Version} →
+  pub holds_safer : {received : ℕ → ℕ → PerSite} {held : ℕ → ℕ → List Version} {safe safe' : ℕ → PerSite}
+      {log : List Version} →
       ((s : ℕ) → s < L.sites → Covers (safe' s) (safe s)) → HeldInv k L received held safe log
       → HeldInv k L received held safe' log
   holds_safer up h = record { had = h.had; kept = λ v s l i w. stands_safer (up s l) (h.kept v s l i w) }
@@ -275,7 +278,8 @@ module _ {k : Kind} {L : Shape} where
           received_stamps = h.marks.received_stamps;
           reported_mark = h.marks.reported_mark;
           reported_below = h.marks.reported_below;
-          stable_mark = λ s' n'. set2_cases T.stable s n m s' n' (IsMark k) (λ _ _. mk) (λ _. h.marks.stable_mark s' n');
+          stable_mark =
+              λ s' n'. set2_cases T.stable s n m s' n' (IsMark k) (λ _ _. mk) (λ _. h.marks.stable_mark s' n');
           stable_below = λ s' n'. set2_cases T.stable s n m s' n' (λ x. Below L T.received s' x) (λ e _. rw e b)
               (λ _. h.marks.stable_below s' n');
         };
@@ -317,7 +321,8 @@ module _ {k : Kind} {L : Shape} where
     holds = h.holds;
     marks = record {
       received_stamps = h.marks.received_stamps;
-      reported_mark = λ s' n'. set2_cases T.reported s n m s' n' (IsMark k) (λ _ _. mk) (λ _. h.marks.reported_mark s' n');
+      reported_mark =
+          λ s' n'. set2_cases T.reported s n m s' n' (IsMark k) (λ _ _. mk) (λ _. h.marks.reported_mark s' n');
       reported_below = λ s' n'. set2_cases T.reported s n m s' n' (λ x. Covers (T.received s' n') x)
           (λ e f. rw (e, f) c) (λ _. h.marks.reported_below s' n');
       stable_mark = h.marks.stable_mark;

@@ -37,7 +37,8 @@ with_servers g server =
       next_serial = g.next_serial;
     }
 
-module _ {k : Kind} (law : IsLawfulKind k) {P : Pasts} {G : Ghost} (g : GroupState) (four : g.sites ≤ 4) (some : 1 ≤ g.partitions)
+module _ {k : Kind} (law : IsLawfulKind k) {P : Pasts} {G : Ghost} (g : GroupState) (four : g.sites ≤ 4)
+    (some : 1 ≤ g.partitions)
     (h : Core k (shape g four some) P (tables k g) G) where
   cut_stamps : (a : ℕ) (y : SeatState) → seat_at g a ≡ Some y → IsMark k y.cut
   cut_stamps a y e = let o = h.seats a y e in subst (IsMark k) (sym o.its_cut) (h.cuts.cut_mark y.serial o.issued)
@@ -58,7 +59,8 @@ module _ {k : Kind} (law : IsLawfulKind k) {P : Pasts} {G : Ghost} (g : GroupSta
       (λ n l. covers_trans (up s n) (safe_stable law g s (safe_rows_lem s) n l))
       (λ a y e at_s. safe_cut law g s (safe_rows_lem s) a y e at_s)
 
-  pub safe_server : (s n : ℕ) (x : ServerState) → IsMark k x.marks.stable → Covers x.marks.stable (g.server s n).marks.stable →
+  pub safe_server : (s n : ℕ) (x : ServerState) → IsMark k x.marks.stable
+      → Covers x.marks.stable (g.server s n).marks.stable →
       (s' : ℕ) → Covers (safe_mark k (with_server g s n x) s') (safe_mark k g s')
   safe_server s n x mk up = safe_servers (set2 g.server s n x)
       (λ i m. set2_cases g.server s n x i m (λ y. IsMark k y.marks.stable) (λ _ _. mk) (λ _. h.marks.stable_mark i m))
@@ -99,7 +101,8 @@ module _ {k : Kind} (law : IsLawfulKind k) {P : Pasts} {G : Ghost} (g : GroupSta
       (subst (λ (m : PerSite). Covers m (g.server s n).marks.stable) (sym e) (covers_self (g.server s n).marks.stable))
 
   -- mark m, below what the site has received, is joined into a stable mark
-  pub raise_server : (s n : ℕ) (m : PerSite) → IsMark k m → Below (shape g four some) (λ i j. (g.server i j).marks.received) s m →
+  pub raise_server : (s n : ℕ) (m : PerSite) → IsMark k m
+      → Below (shape g four some) (λ i j. (g.server i j).marks.received) s m →
       Core k (shape g four some) P (tables k (with_server g s n (raised_server k (g.server s n) m))) G
   raise_server s n m mk b =
       let stable = (g.server s n).marks.stable in
@@ -115,7 +118,8 @@ module _ {k : Kind} (law : IsLawfulKind k) {P : Pasts} {G : Ghost} (g : GroupSta
       (safer (safe_mark k (with_server g s n new)) (λ s' _. safe_server s n new nm up s')
       (raised s n (join (k.floor stable) m) nm up low h))
 
-  pub report_server : (s n : ℕ) → Core k (shape g four some) P (tables k (with_server g s n (server_report k (g.server s n)))) G
+  pub report_server : (s n : ℕ) → Core k (shape g four some) P
+      (tables k (with_server g s n (server_report k (g.server s n)))) G
   report_server s n =
       let new = server_report k (g.server s n) in
       let st = h.marks.received_stamps s n in
@@ -134,7 +138,8 @@ module _ {k : Kind} (law : IsLawfulKind k) {P : Pasts} {G : Ghost} (g : GroupSta
       (sym (tables_server k g s n new (set2_same _ s n _ a) (set2_same _ s n _ (ap (λ (m : MarksState). m.received) b))
       (set2_same _ s n _ (ap (λ (m : MarksState). m.reported) b))
       (set2_same _ s n _ (ap (λ (m : MarksState). m.stable) b)) (set2_same _ s n _ c)))
-      (safer (safe_mark k (with_server g s n new)) (λ s' _. same_safe s n new (ap (λ (m : MarksState). m.stable) b) s') h)
+      (safer (safe_mark k (with_server g s n new)) (λ s' _. same_safe s n new (ap (λ (m : MarksState). m.stable) b) s')
+      h)
 
   pub tidy_server : (s n : ℕ) → Core k (shape g four some) P
       (tables k (with_server g s n (server_tidy k (g.server s n) (safe_mark k g s)).1)) G
@@ -198,14 +203,16 @@ module _ {k : Kind} (law : IsLawfulKind k) {P : Pasts} {G : Ghost} (g : GroupSta
       (λ _ f. safe_cut law g s (safe_rows_lem s) b y f at_s)
       (at_seat b y e))
 
-  pub close_seat : (a : ℕ) → a < length g.seats → Core k (shape g four some) P (tables k (with_seat g a None g.next_serial)) G
+  pub close_seat : (a : ℕ) → a < length g.seats
+      → Core k (shape g four some) P (tables k (with_seat g a None g.next_serial)) G
   close_seat a l =
       subst (λ (T : Tables). Core k (shape g four some) P T G) (sym (tables_seat k g a None g.next_serial l))
       (safer (safe_mark k (with_seat g a None g.next_serial))
       (λ s _. safe_seat a None g.next_serial l (λ y e. absurd (not_some e)) s) (closed h a))
 
   -- session i opens a snapshot at a free seat; the cut is known to it and covers a stable mark of its site
-  pub open_seat : (i a n : ℕ) (m : PerSite) → i < length g.sessions → a < length g.seats → n < g.partitions → IsMark k m →
+  pub open_seat : (i a n : ℕ) (m : PerSite) → i < length g.sessions → a < length g.seats → n < g.partitions → IsMark k m
+      →
       Covers (session_at g i).knows m → Covers m (g.server (session_at g i).site n).marks.stable
       → Below (shape g four some) (λ s n. (g.server s n).marks.received) (session_at g i).site m →
       Core k (shape g four some) P (tables k (with_seat g a

@@ -55,7 +55,8 @@ pub record Inv (k : Kind) (sites : ℕ) (h : History) (g : GroupState) (G : Ghos
   pub layout : g.sites ≡ sites
   pub core : Core k (shape g frame.layout.few_sites frame.layout.some_partitions) (HasInPast h) (tables k g) G
   pub hist : HistInv h g
-  pub reads : (t : Ticket) (key : ℕ) (o : Option Shown) → InList (read_by t key o) h → ReadRight k G g.next_serial t key o
+  pub reads : (t : Ticket) (key : ℕ) (o : Option Shown) → InList (read_by t key o) h
+      → ReadRight k G g.next_serial t key o
   -- the log is what was put
   pub written : (v : Version) → InList v G.log → WasPut h (name_of v) v.value
   pub logged : (p : Put) (x : Value) → WasPut h p x → (v : Version) × InList v G.log × (name_of v ≡ p)
@@ -90,7 +91,8 @@ read_grows {k} {next} {next'} {G} {G'} up t key o r = record {
 }
 
 -- The invariant is kept by a call that tells t and leaves g'.
-pub record Kept (k : Kind) (sites : ℕ) (h : History) (g : GroupState) (G : Ghost) (t : Told) (g' : GroupState) : Type 0 where
+pub record Kept (k : Kind) (sites : ℕ) (h : History) (g : GroupState) (G : Ghost) (t : Told) (g' : GroupState) : Type
+    0 where
   pub ghost : Ghost
   pub inv : Inv k sites (t ∷ h) g' ghost
   pub grows : Grows k g.next_serial g'.next_serial G ghost

@@ -1,5 +1,5 @@
--- The invariant: what holds of a group after any calls. Its parts speak of the tables that they need and of no others, so
--- that a call which leaves these alone keeps the part as it is.
+-- The invariant: what holds of a group after any calls. Its parts speak of the tables that they need and of no others,
+-- so that a call which leaves these alone keeps the part as it is.
 use Rattle.std.proofs.Common.{◌≡◌, ℕ, ◌%◌, ◌^◌, ◌<◌, ◌≤◌, ◌⊎◌, List, [], ◌∷◌, length, Some, Option}
 use Rattle.stamps.specs.Rows.{PerSite, HasStamps, Covers, at, greatest}
 use Rattle.stamps.specs.Kinds.{Kind, IsMark}
@@ -90,7 +90,8 @@ pub record LogInv (k : Kind) (L : Shape) (received : ℕ → ℕ → PerSite) (l
   pub unique : (v w : Version) → InList v log → InList w log → name_of v ≡ name_of w → v ≡ w
 
 -- What is under way: it comes in rising stamps, and a version of the log has arrived at a site or is under way to it.
-pub record QueueInv (L : Shape) (received : ℕ → ℕ → PerSite) (waits : ℕ → ℕ → ℕ → List Entry) (log : List Version) : Type 0 where
+pub record QueueInv (L : Shape) (received : ℕ → ℕ → PerSite) (waits : ℕ → ℕ → ℕ → List Entry)
+    (log : List Version) : Type 0 where
   pub chain : (j s n : ℕ) → j < L.sites → s < L.sites → (s ≡ j → ⊥)
       → Chain (at (received s n) j) (waits j n s) (last received j n)
   pub pending : (v : Version) (j s n : ℕ) → j < L.sites → s < L.sites → (s ≡ j → ⊥) → InList (Update v) (waits j n s)
@@ -154,7 +155,8 @@ pub record Reached (k : Kind) (L : Shape) (received : ℕ → ℕ → PerSite) (
   pub seen : (version.source ≡ s) ⊎ Covers clear (full_mark k version)
 
 -- Put p stands in the past of put u.
-pub record Before (k : Kind) (L : Shape) (received stable : ℕ → ℕ → PerSite) (log : List Version) (u p : Put) : Type 0 where
+pub record Before (k : Kind) (L : Shape) (received stable : ℕ → ℕ → PerSite) (log : List Version) (u p : Put) : Type
+    0 where
   pub writer : Version
   pub logged : InList writer log
   pub named : name_of writer ≡ u

@@ -85,7 +85,8 @@ received_le {received = received} {waits = waits} q s n j ls lj = go (cases_eq s
     go (inr ne) = chain_le _ _ (waits j n s) (q.chain j s n lj ls ne)
 
 module _ (L : Shape) (received : ℕ → ℕ → PerSite) (waits : ℕ → ℕ → ℕ → List Entry) (log : List Version)
-    (q : QueueInv L received waits log) (s n : ℕ) (e : Entry) (in_s : s < L.sites) (new : last received s n < entry_stamp e) where
+    (q : QueueInv L received waits log) (s n : ℕ) (e : Entry) (in_s : s < L.sites)
+    (new : last received s n < entry_stamp e) where
   four : (j : ℕ) → j < L.sites → j < 4
   four j l = omega (arith, L.sites_four)
 
@@ -98,7 +99,8 @@ module _ (L : Shape) (received : ℕ → ℕ → PerSite) (waits : ℕ → ℕ �
       (entry_rises (received s n) s (entry_stamp e) (omega arith))
 
   pub last_rises : (j n' : ℕ) → j < L.sites → last received j n' ≤ last (receiving received s n s (entry_stamp e)) j n'
-  last_rises j n' l = receiving_cases received s n s (entry_stamp e) j n' j (four s in_s) (four j l) (λ x. last received j n' ≤ x)
+  last_rises j n' l =
+      receiving_cases received s n s (entry_stamp e) j n' j (four s in_s) (four j l) (λ x. last received j n' ≤ x)
       (λ a b _. rw (a, b) (omega arith)) (λ _. le_refl (last received j n'))
 
   -- the last stamp of the server is now that of the entry
@@ -115,7 +117,8 @@ module _ (L : Shape) (received : ℕ → ℕ → PerSite) (waits : ℕ → ℕ �
       (λ _ h. h)
 
   -- at another site, nothing new is had
-  pub not_had : (v : Version) (s' : ℕ) → s' < L.sites → (s' ≡ s → ⊥) → v.source ≡ s → part L v.key ≡ n → v.stamp ≡ entry_stamp e →
+  pub not_had : (v : Version) (s' : ℕ) → s' < L.sites → (s' ≡ s → ⊥) → v.source ≡ s → part L v.key ≡ n
+      → v.stamp ≡ entry_stamp e →
       Had L (receiving received s n s (entry_stamp e)) s' v → ⊥
   not_had v s' l ne a b t = receiving_cases received s n s (entry_stamp e) s' (part L v.key) v.source (four s in_s)
       (subst (λ (x : ℕ). x < 4) (sym a) (four s in_s)) (λ x. v.stamp ≤ x → ⊥)
@@ -142,7 +145,8 @@ module _ (L : Shape) (received : ℕ → ℕ → PerSite) (waits : ℕ → ℕ �
           receiving_cases received s n s (entry_stamp e) s' n' j (four s in_s) (four j lj)
           (λ x. Chain x (sending L.sites waits s n e j n' s') (last received' j n'))
           (λ a _ c. absurd (ne (a ∙ sym c)))
-          (λ _. sending_cases L.sites waits s n e j n' s' ls ne (λ x. Chain (at (received s' n') j) x (last received' j n'))
+          (λ _. sending_cases L.sites waits s n e j n' s' ls ne
+          (λ x. Chain (at (received s' n') j) x (last received' j n'))
           (λ a b. receiving_cases received s n s (entry_stamp e) j n' j (four s in_s) (four j lj)
           (λ x. Chain (at (received s' n') j) (waits j n' s' ++ (e ∷ [])) x)
           (λ _ _ _. chain_push (at (received s' n') j) (last received j n') (waits j n' s') e (q.chain j s' n' lj ls ne)

@@ -38,7 +38,8 @@ set2 f s n x s' n' = cond (eqb s' s && eqb n' n) x (f s' n')
 
 pub set1_cases : {A : Type 0} (f : ℕ → A) (i : ℕ) (x : A) (j : ℕ) (P : A → Type 0) → (j ≡ i → P x)
     → ((j ≡ i → ⊥) → P (f j)) → P (set1 f i x j)
-set1_cases f i x j P here other = cond_both (eqb j i) x (f j) P (λ e. here (eqb-true _ _ e)) (λ e. other (eqb-false _ _ e))
+set1_cases f i x j P here other =
+    cond_both (eqb j i) x (f j) P (λ e. here (eqb-true _ _ e)) (λ e. other (eqb-false _ _ e))
 
 pub set2_cases : {A : Type 0} (f : ℕ → ℕ → A) (s n : ℕ) (x : A) (s' n' : ℕ) (P : A → Type 0) → (s' ≡ s → n' ≡ n → P x)
     → ((s' ≡ s → n' ≡ n → ⊥) → P (f s' n')) → P (set2 f s n x s' n')
@@ -55,7 +56,8 @@ set1_other f i x j ne = set1_cases f i x j (λ y. y ≡ f j) (λ e. absurd (ne e
 pub set2_here : {A : Type 0} (f : ℕ → ℕ → A) (s n : ℕ) (x : A) → set2 f s n x s n ≡ x
 set2_here f s n x = set2_cases f s n x s n (λ y. y ≡ x) (λ _ _. refl) (λ ne. absurd (ne refl refl))
 
-pub set2_other : {A : Type 0} (f : ℕ → ℕ → A) (s n : ℕ) (x : A) (s' n' : ℕ) → (s' ≡ s → n' ≡ n → ⊥) → set2 f s n x s' n' ≡ f s' n'
+pub set2_other : {A : Type 0} (f : ℕ → ℕ → A) (s n : ℕ) (x : A) (s' n' : ℕ) → (s' ≡ s → n' ≡ n → ⊥)
+    → set2 f s n x s' n' ≡ f s' n'
 set2_other f s n x s' n' ne = set2_cases f s n x s' n' (λ y. y ≡ f s' n') (λ a b. absurd (ne a b)) (λ _. refl)
 
 -- a table with a place set to what stands there
@@ -93,7 +95,8 @@ get_d_push (y ∷ ys) x d = fun_ext λ j. at j (get_d_push ys x d)
     at : (j : ℕ) → (λ m. get_or (ys ++ (x ∷ [])) m d) ≡ set1 (λ m. get_or ys m d) (length ys) x
         → get_or (y ∷ (ys ++ (x ∷ []))) j d ≡ set1 (λ m. get_or (y ∷ ys) m d) (length (y ∷ ys)) x j
     at ℕ.zero rec = sym (set1_other (λ m. get_or (y ∷ ys) m d) (length (y ∷ ys)) x 0 (λ e. absurd (omega arith)))
-    at (suc j) rec = set1_cases (λ m. get_or (y ∷ ys) m d) (length (y ∷ ys)) x (suc j) (λ z. get_or (ys ++ (x ∷ [])) j d ≡ z)
+    at (suc j) rec =
+        set1_cases (λ m. get_or (y ∷ ys) m d) (length (y ∷ ys)) x (suc j) (λ z. get_or (ys ++ (x ∷ [])) j d ≡ z)
         (λ e. ap (λ f. f j) rec ∙ set1_cases (λ m. get_or ys m d) (length ys) x j (λ z. z ≡ x) (λ _. refl)
         (λ ne. absurd (ne (omega arith))))
         (λ ne. ap (λ f. f j) rec ∙ set1_other (λ m. get_or ys m d) (length ys) x j (λ e. ne (omega arith)))

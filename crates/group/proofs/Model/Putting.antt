@@ -15,11 +15,13 @@ use Rattle.group.proofs.Model.Invariant.{Shape, part, Ghost, Tables, name_of, la
 use Rattle.group.proofs.Model.Invariant.{HeldInv, Core}
 use Rattle.group.proofs.Model.Effects.{with_entries, Rises, Sub, rises_same, grown_same, had_rises, marks_received}
 use Rattle.group.proofs.Model.Effects.{session_received, cuts_received, pasts_rise}
-use Rattle.group.proofs.Model.Issuing.{receiving, sending, issue_rises, last_rises, last_here, had_back, not_had, queues_issue}
+use Rattle.group.proofs.Model.Issuing.{receiving, sending, issue_rises, last_rises, last_here, had_back, not_had}
+use Rattle.group.proofs.Model.Issuing.{queues_issue}
 
 pub stands_grow : {k : Kind} (vs vs' : List Version) (m : PerSite) (v : Version) → Sub vs vs' → StandsIn k vs m v
     → StandsIn k vs' m v
-stands_grow vs vs' m v sub x = record { other = x.other; there = sub x.other x.there; same_key = x.same_key; how = x.how }
+stands_grow vs vs' m v sub x =
+    record { other = x.other; there = sub x.other x.there; same_key = x.same_key; how = x.how }
 
 pub receiving_stamps : (received : ℕ → ℕ → PerSite) (s n i t : ℕ) → ((s n : ℕ) → HasStamps (received s n)) → t < 2 ^ 63
     → (s' n' : ℕ) → HasStamps (receiving received s n i t s' n')
@@ -30,7 +32,8 @@ receiving_stamps received s n i t st l s' n' =
 no_heartbeat : (t : ℕ) (v : Version) → Heartbeat t ≡ Update v → ⊥
 no_heartbeat t v e = let z : ◌≡◌ {A = ℕ} 0 1 = cc in omega arith
 
-module _ {k : Kind} {L : Shape} {P : Pasts} {T : Tables} {G : Ghost} (h : Core k L P T G) (s n : ℕ) (in_s : s < L.sites) where
+module _ {k : Kind} {L : Shape} {P : Pasts} {T : Tables} {G : Ghost} (h : Core k L P T G) (s n : ℕ)
+    (in_s : s < L.sites) where
   -- a heartbeat of stamp t
   pub beaten : (t : ℕ) → last T.received s n < t → t < 2 ^ 63 →
       Core k L P (with_entries T T.held (receiving T.received s n s t) (sending L.sites T.waits s n (Heartbeat t))) G
@@ -89,7 +92,8 @@ module _ {k : Kind} {L : Shape} {P : Pasts} {T : Tables} {G : Ghost} (h : Core k
     kept_logs = record { source = src; stamped = stm; small = sml; marked = mrk; above = abv; unique = unq }
       where
         src : (w : Version) → InList w (v ∷ G.log) → w.source < L.sites
-        src w (inl e) = subst (λ (x : Version). x.source < L.sites) (sym e) (subst (λ (x : ℕ). x < L.sites) (sym source) in_s)
+        src w (inl e) =
+            subst (λ (x : Version). x.source < L.sites) (sym e) (subst (λ (x : ℕ). x < L.sites) (sym source) in_s)
         src w (inr j) = h.logs.source w j
 
         stm : (w : Version) → InList w (v ∷ G.log) → w.stamp ≤ last received' w.source (part L w.key)
@@ -160,7 +164,8 @@ module _ {k : Kind} {L : Shape} {P : Pasts} {T : Tables} {G : Ghost} (h : Core k
             (in_push w (T.held s n) v j)))
             (λ _ j. old s' n' j)
           where
-            old : (s'' n'' : ℕ) → InList w (T.held s'' n'') → InList w (v ∷ G.log) × (part L w.key ≡ n'') × Had L received' s'' w
+            old : (s'' n'' : ℕ) → InList w (T.held s'' n'')
+                → InList w (v ∷ G.log) × (part L w.key ≡ n'') × Had L received' s'' w
             old s'' n'' j = let o = h.holds.had w s'' n'' j in (inr o.0, o.1, had_rises L s'' w up o.2)
 
         grow : (w : Version) (s' n' : ℕ) → InList w (T.held s' n') → InList w (held' s' n')

@@ -66,7 +66,8 @@ module _ {k : Kind} {sites : ℕ} {h : History} {g : GroupState} {G : Ghost} (v 
       → InList e ((g.server s n).waiting site) → IsEntryBounded k g.sites e
   entry_bounded s n site ls lt apart (Update w) i = logged_bounded w (v.core.queues.pending w s site n ls lt apart i).0
   entry_bounded s n site ls lt apart (Heartbeat stamp) i =
-      let low = chain_below _ _ ((g.server s n).waiting site) (Heartbeat stamp) (v.core.queues.chain s site n ls lt apart) i in
+      let low = chain_below _ _ ((g.server s n).waiting site) (Heartbeat stamp)
+      (v.core.queues.chain s site n ls lt apart) i in
       let high = stamps_at (g.server s n).marks.received s (v.core.marks.received_stamps s n) in
       omega arith
 
@@ -84,7 +85,8 @@ module _ {k : Kind} {sites : ℕ} {h : History} {g : GroupState} {G : Ghost} (v 
       stable = v.core.marks.stable_mark s n;
     };
     few_sessions = v.frame.sessions;
-    sessions = λ i l. let x = v.core.sessions i l in record { site = x.inside; depends = x.depends_mark; knows = x.knows_mark };
+    sessions = λ i l. let x = v.core.sessions i l in
+        record { site = x.inside; depends = x.depends_mark; knows = x.knows_mark };
     four_seats = v.frame.seats;
     seats = λ a y e. let o = v.core.seats a y e in
         record {

@@ -4,7 +4,8 @@ use Rattle.std.proofs.Common.{Err, Option, Result, sym, refl, ap, ◌∙◌, sub
 use Rattle.std.proofs.Math.Logic.{∥∥₁_map}
 use Rattle.std.proofs.lemmas.Bool.{cond_both}
 use Rattle.stamps.specs.declared.refusal.Refusal.{Refusal}
-use Rattle.stamps.specs.declared.refusal.Refusal.TheVariants.{NotInLayout, NoSession, NoneFree, NothingWaits, NotOpen, End}
+use Rattle.stamps.specs.declared.refusal.Refusal.TheVariants.{NotInLayout, NoSession, NoneFree, NothingWaits, NotOpen}
+use Rattle.stamps.specs.declared.refusal.Refusal.TheVariants.{End}
 use Rattle.stamps.specs.Clocks.{Rule, IsLawfulRule}
 use Rattle.stamps.specs.Kinds.{Kind, IsLawfulKind}
 use Rattle.servers.specs.declared.version.Version.{Version}
@@ -51,7 +52,8 @@ test_same : {A : Type 0} (g : GroupState) (b : Bool) (x : Result A Refusal × Gr
     → SameLayout g x → SameLayout g (cond b x (Err why, g))
 test_same g b x why p = both_same g b x (Err why, g) p (stays g (Err why))
 
-server_same : {A : Type 0} (g : GroupState) (s n : ℕ) (r : Result A Refusal × ServerState) → SameLayout g (server_left g s n r)
+server_same : {A : Type 0} (g : GroupState) (s n : ℕ) (r : Result A Refusal × ServerState)
+    → SameLayout g (server_left g s n r)
 server_same g s n (Ok x, t) = record { sites = refl; partitions = refl }
 server_same g s n (Err why, t) = stays g (Err why)
 
@@ -65,7 +67,8 @@ on_session_same : {A : Type 0} (g : GroupState) (i : ℕ) (act : SessionState �
     SameLayout g (on_session g i act)
 on_session_same g i act p = test_same g (ltb i (length g.sessions)) (act (session_at g i)) NoSession p
 
-seat_same : {A : Type 0} (g : GroupState) (serial : ℕ) (y : Option SeatState) (act : SeatState → Result A Refusal × GroupState) →
+seat_same : {A : Type 0} (g : GroupState) (serial : ℕ) (y : Option SeatState)
+    (act : SeatState → Result A Refusal × GroupState) →
     ((y : SeatState) → SameLayout g (act y)) → SameLayout g (on_seat_of g serial y act)
 seat_same g serial None act p = stays g (Err NotOpen)
 seat_same g serial (Some y) act p = test_same g (eqb y.serial serial) (act y) NotOpen (p y)
@@ -97,7 +100,8 @@ took_same : (g : GroupState) (from to partition : ℕ) (r : Result Done Refusal 
 took_same g from to partition (Ok done, s) = record { sites = refl; partitions = refl }
 took_same g from to partition (Err why, s) = stays g (Err why)
 
-delivered_same : (g : GroupState) (from to partition : ℕ) (e : Option Entry) → SameLayout g (deliver_entry g from to partition e)
+delivered_same : (g : GroupState) (from to partition : ℕ) (e : Option Entry)
+    → SameLayout g (deliver_entry g from to partition e)
 delivered_same g from to partition None = stays g (Err NothingWaits)
 delivered_same g from to partition (Some e) = took_same g from to partition _
 
@@ -128,7 +132,8 @@ step_same rule k g (read ticket key) =
     seat_same g ticket.serial (seat_at g ticket.seat) _ (λ y. show_same k g _ y.session _ refl refl)
 step_same rule k g (close ticket) = seat_same g ticket.serial (seat_at g ticket.seat)
     (λ y. (Ok tt, with_seat g ticket.seat None g.next_serial)) (λ y. record { sites = refl; partitions = refl })
-step_same rule k g (tidy site partition) = on_server_same g site partition (λ s. with_ok (server_tidy k s (safe_mark k g site)))
+step_same rule k g (tidy site partition) =
+    on_server_same g site partition (λ s. with_ok (server_tidy k s (safe_mark k g site)))
 step_same rule k g (lead site partition) =
     test_same g (has_server g site partition) (Ok (lead_of (g.server site partition)), g) NotInLayout
     (stays g (Ok (lead_of (g.server site partition))))
@@ -144,7 +149,8 @@ pub reached_after : {rule : Rule} {k : Kind} {g : GroupState} (call : Call) → 
 reached_after {rule} {k} {g} call r =
     let h = (step rule k g call).1 in
     let same = step_same rule k g call in
-    let Leads : ℕ → ℕ → Type 0 = λ sites partitions. (run_of rule k sites partitions (r.calls ++ call ∷ [])).state ≡ h in
+    let Leads : ℕ → ℕ → Type 0 =
+    λ sites partitions. (run_of rule k sites partitions (r.calls ++ call ∷ [])).state ≡ h in
     let S = group_store rule k g.sites in
     let leads : Leads g.sites g.partitions =
     ap (λ (t : Run S). t.state) (then_append S (record { events = []; state = new_group g.sites g.partitions }) r.calls

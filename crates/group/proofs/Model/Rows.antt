@@ -50,13 +50,15 @@ pub at_entry_other : (x : PerSite) (i j s : ℕ) → i < 4 → j < 4 → (j ≡ 
 at_entry_other x i j s l k ne = grind (arith, nat_tests)
 
 pub entry_rises : (x : PerSite) (i s : ℕ) → at x i ≤ s → Covers (with_entry x i s) x
-entry_rises x i s h = (grind (arith, nat_tests), grind (arith, nat_tests), grind (arith, nat_tests), grind (arith, nat_tests))
+entry_rises x i s h =
+    (grind (arith, nat_tests), grind (arith, nat_tests), grind (arith, nat_tests), grind (arith, nat_tests))
 
 pub stamps_below : {x y : PerSite} → Covers x y → HasStamps x → HasStamps y
 stamps_below {x} {y} c h = (omega arith, omega arith, omega arith, omega arith)
 
 pub stamps_entry : (x : PerSite) (i s : ℕ) → HasStamps x → s < 2 ^ 63 → HasStamps (with_entry x i s)
-stamps_entry x i s h l = (grind (arith, nat_tests), grind (arith, nat_tests), grind (arith, nat_tests), grind (arith, nat_tests))
+stamps_entry x i s h l =
+    (grind (arith, nat_tests), grind (arith, nat_tests), grind (arith, nat_tests), grind (arith, nat_tests))
 
 pub stamps_at : (x : PerSite) (i : ℕ) → HasStamps x → at x i < 2 ^ 63
 stamps_at x i h = grind (arith, nat_tests, h.0, h.1, h.2, h.3)

@@ -20,7 +20,8 @@ use Rattle.group.proofs.Model.Rows.{covers_zero, zero_mark}
 use Rattle.group.proofs.Model.Invariant.{Ghost}
 use Rattle.group.proofs.Model.Seating.{not_some}
 use Rattle.group.proofs.Model.Histories.{Inv, Grows, grows_same, grows_on, Kept, refused_kept}
-use Rattle.group.proofs.Model.ServerSteps.{keeps_tell, keeps_heartbeat, keeps_deliver, keeps_report, keeps_stabilise, keeps_tidy}
+use Rattle.group.proofs.Model.ServerSteps.{keeps_tell, keeps_heartbeat, keeps_deliver, keeps_report, keeps_stabilise}
+use Rattle.group.proofs.Model.ServerSteps.{keeps_tidy}
 use Rattle.group.proofs.Model.SessionSteps.{keeps_open, keeps_put, keeps_get}
 use Rattle.group.proofs.Model.SnapshotSteps.{keeps_snapshot, keeps_read, keeps_close}
 
@@ -64,7 +65,13 @@ pub begins : {k : Kind} → IsLawfulKind k → (sites partitions : ℕ) → IsLa
 begins {k} law sites partitions layout = record {
   frame = record {
     layout = layout;
-    servers = λ s n. record { site_is = refl; sites_is = refl; versions = lit≤ tt; entries = λ site. lit≤ tt; reading = lit< tt };
+    servers = λ s n. record {
+      site_is = refl;
+      sites_is = refl;
+      versions = lit≤ tt;
+      entries = λ site. lit≤ tt;
+      reading = lit< tt;
+    };
     sessions = lit≤ tt;
     seats = refl;
     serials = lit< tt;
@@ -79,7 +86,11 @@ begins {k} law sites partitions layout = record {
       above = λ v i. absurd i;
       unique = λ v w i j e. absurd i;
     };
-    queues = record { chain = λ j s n lj ls ne. refl; pending = λ v j s n lj ls ne i. absurd i; reach = λ v s i l ne. absurd i };
+    queues = record {
+      chain = λ j s n lj ls ne. refl;
+      pending = λ v j s n lj ls ne i. absurd i;
+      reach = λ v s i l ne. absurd i;
+    };
     holds = record { had = λ v s n i. absurd i; kept = λ v s l i h. absurd i };
     marks = record {
       received_stamps = λ s n. first_stamps sites;
@@ -95,7 +106,11 @@ begins {k} law sites partitions layout = record {
       cut_below = λ q l. absurd (omega arith);
       cut_site = λ q l. absurd (omega arith);
     };
-    pasts = record { open_only = λ i p q. absurd q; of_session_lem = λ i p q. absurd q; of_put_lem = λ u p q. absurd q };
+    pasts = record {
+      open_only = λ i p q. absurd q;
+      of_session_lem = λ i p q. absurd q;
+      of_put_lem = λ u p q. absurd q;
+    };
   };
   hist = record {
     opened_known = λ i o. absurd o;

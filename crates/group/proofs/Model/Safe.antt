@@ -27,7 +27,8 @@ cut_in g s (Some z ∷ ys) ℕ.zero y e at_s = go (eqb (session_at g z.session).
     same : z ≡ y
     same = some_same e
 
-    go : (b : Bool) → eqb (session_at g z.session).site s ≡ b → InList y.cut (cond b (z.cut ∷ cuts_of g s ys) (cuts_of g s ys))
+    go : (b : Bool) → eqb (session_at g z.session).site s ≡ b
+        → InList y.cut (cond b (z.cut ∷ cuts_of g s ys) (cuts_of g s ys))
     go true t = inl (sym (ap (λ (x : SeatState). x.cut) same))
     go false t = absurd (both_ways _ t (eq-eqb _ _ (ap (λ (x : SeatState). (session_at g x.session).site) same ∙ at_s)))
 cut_in g s (Some z ∷ ys) (suc a) y e at_s = go (eqb (session_at g z.session).site s) (cut_in g s ys a y e at_s)
@@ -48,7 +49,8 @@ further : {g : GroupState} {s : ℕ} {ys : List (Option SeatState)} {x : PerSite
     → CutOf g s (o ∷ ys) x
 further o c = record { place = suc c.place; seat = c.seat; there = c.there; at_site = c.at_site; is = c.is }
 
-pub in_cuts : (g : GroupState) (s : ℕ) (ys : List (Option SeatState)) (x : PerSite) → InList x (cuts_of g s ys) → CutOf g s ys x
+pub in_cuts : (g : GroupState) (s : ℕ) (ys : List (Option SeatState)) (x : PerSite) → InList x (cuts_of g s ys)
+    → CutOf g s ys x
 in_cuts g s [] x h = absurd h
 in_cuts g s (None ∷ ys) x h = further None (in_cuts g s ys x h)
 in_cuts g s (Some z ∷ ys) x h = go (eqb (session_at g z.session).site s) refl h (in_cuts g s ys x)

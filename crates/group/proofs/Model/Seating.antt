@@ -97,7 +97,8 @@ module _ {k : Kind} {L : Shape} {P : Pasts} {T : Tables} {G : Ghost} (h : Core k
           → (q < T.next → Q (G.snap_site q) (G.cut_of q)) → Q (site' q) (cut' q)
       at_q q lq Q here old = set1_cases G.snap_site T.next (T.session i).site q (λ s. Q s (cut' q))
           (λ e. set1_cases G.cut_of T.next m q (λ c. Q (T.session i).site c) (λ _. here) (λ ne. absurd (ne e)))
-          (λ ne. set1_cases G.cut_of T.next m q (λ c. Q (G.snap_site q) c) (λ e. absurd (ne e)) (λ _. old (omega arith)))
+          (λ ne. set1_cases G.cut_of T.next m q (λ c. Q (G.snap_site q) c) (λ e. absurd (ne e))
+          (λ _. old (omega arith)))
 
   -- a session is opened at site s
   pub enrolled : IsLawfulKind k → (s : ℕ) → s < L.sites

@@ -25,13 +25,16 @@ module _ {k : Kind} (law : IsLawfulKind k) (L : Shape) where
 
   -- v is the site's own and its server's stable mark is known, or its full mark is known
   abbrev pub Clear : (ℕ → ℕ → PerSite) → ℕ → PerSite → Version → Type 0
-  Clear stable s clear v = ((v.source ≡ s) × Covers clear (stable v.source (part L v.key))) ⊎ Covers clear (full_mark k v)
+  Clear stable s clear v =
+      ((v.source ≡ s) × Covers clear (stable v.source (part L v.key))) ⊎ Covers clear (full_mark k v)
 
   -- the past of a version that is clear at site s is reached there
   through : (received stable : ℕ → ℕ → PerSite) {log : List Version} (s : ℕ) {mark : PerSite} (clear : PerSite)
       {p : Put} (v : Version) →
-      LogInv k L received log → InList v log → Below L received s clear → Covers mark (full_mark k v) → Clear stable s clear v →
-      Reached k L received log v.source v.mark (stable v.source (part L v.key)) p → Reached k L received log s mark clear p
+      LogInv k L received log → InList v log → Below L received s clear → Covers mark (full_mark k v)
+      → Clear stable s clear v →
+      Reached k L received log v.source v.mark (stable v.source (part L v.key)) p
+      → Reached k L received log s mark clear p
   through received stable s clear v logs i b c (inl (own, st)) r = record {
     version = r.version;
     logged = r.logged;
@@ -53,7 +56,8 @@ module _ {k : Kind} (law : IsLawfulKind k) (L : Shape) where
         logged = r.logged;
         named = r.named;
         covered = covers_trans c over;
-        here = had_below received s clear r.version (logs.source r.version r.logged) (logs.small r.version r.logged) b low;
+        here = had_below received s clear r.version (logs.source r.version r.logged) (logs.small r.version r.logged) b
+            low;
         seen = inr low;
       }
 

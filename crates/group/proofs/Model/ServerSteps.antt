@@ -2,9 +2,11 @@
 use Rattle.std.proofs.Common.{◌≡◌, ℕ, suc, ◌^◌, ◌<◌, ◌≤◌, true, false, cond, not, ◌&&◌, eqb, ltb, leb, List, [], ◌∷◌}
 use Rattle.std.proofs.Common.{◌++◌, length, drop, Ok, Err, Result, sym, refl, ap, ◌∙◌, subst, ⊎_elim, arith, lit<}
 use Rattle.std.proofs.lemmas.List.{length-append, length-drop}
-use Rattle.std.proofs.lemmas.Bool.{and_parts, and_cases, cond_both, eqb-false, leb-false, ltb-true, not-true, or_parts, both_ways}
+use Rattle.std.proofs.lemmas.Bool.{and_parts, and_cases, cond_both, eqb-false, leb-false, ltb-true, not-true, or_parts}
+use Rattle.std.proofs.lemmas.Bool.{both_ways}
 use Rattle.stamps.specs.declared.refusal.Refusal.{Refusal}
-use Rattle.stamps.specs.declared.refusal.Refusal.TheVariants.{NotInLayout, Unlawful, ReadingBehind, TableFull, OutboxFull}
+use Rattle.stamps.specs.declared.refusal.Refusal.TheVariants.{NotInLayout, Unlawful, ReadingBehind, TableFull}
+use Rattle.stamps.specs.declared.refusal.Refusal.TheVariants.{OutboxFull}
 use Rattle.stamps.specs.Clocks.{Rule, IsAllowed, IsLawfulRule}
 use Rattle.stamps.specs.Rows.{PerSite, Covers, HasStamps, at, with_entry}
 use Rattle.stamps.specs.CommonFloors.{common_floor}
@@ -46,7 +48,8 @@ pub issued_few : (own sites : ℕ) (w : Queues) (e : Entry) → sites ≤ 4 → 
     → ((site : ℕ) → length (w site) ≤ 16) → (site : ℕ) → length (issue_entry own sites w e site) ≤ 16
 issued_few own sites w e few room old site =
     cond_both (is_other own sites site) (w site ++ (e ∷ [])) (w site) (λ q. length q ≤ 16)
-    (λ other. let l = leb-false 16 (length (w site)) (free site other) in omega (arith, length-append (w site) (e ∷ [])))
+    (λ other. let l = leb-false 16 (length (w site)) (free site other) in
+    omega (arith, length-append (w site) (e ∷ [])))
     (λ _. old site)
   where
     Free : ℕ → Type 0
@@ -73,7 +76,8 @@ taken_few w taker old site = cond_both (eqb site taker) (drop 1 (w site)) (w sit
 pub in_layout : (g : GroupState) (s n : ℕ) → has_server g s n ≡ true → (s < g.sites) × (n < g.partitions)
 in_layout g s n e = let p = and_parts (ltb s g.sites) (ltb n g.partitions) e in (ltb-true _ _ p.0, ltb-true _ _ p.1)
 
-module _ {k : Kind} (law : IsLawfulKind k) {sites : ℕ} {h : History} {g : GroupState} {G : Ghost} (v : Inv k sites h g G) where
+module _ {k : Kind} (law : IsLawfulKind k) {sites : ℕ} {h : History} {g : GroupState} {G : Ghost}
+    (v : Inv k sites h g G) where
   abbrev L : Shape
   L = shape g v.frame.layout.few_sites v.frame.layout.some_partitions
 
@@ -109,7 +113,13 @@ module _ {k : Kind} (law : IsLawfulKind k) {sites : ℕ} {h : History} {g : Grou
       })
   marks_frame s n marks =
       let f = v.frame.servers s n in
-      record { site_is = f.site_is; sites_is = f.sites_is; versions = f.versions; entries = f.entries; reading = f.reading }
+      record {
+        site_is = f.site_is;
+        sites_is = f.sites_is;
+        versions = f.versions;
+        entries = f.entries;
+        reading = f.reading;
+      }
 
   pub keeps_tell : (s n time : ℕ) → Kept k sites h g G nothing (on_server g s n (λ x. server_tell x time)).1
   keeps_tell s n time = on_kept s n (λ x. server_tell x time) (λ _ _.
@@ -168,9 +178,11 @@ module _ {k : Kind} (law : IsLawfulKind k) {sites : ℕ} {h : History} {g : Grou
       low n' l = covers_trans (v.core.marks.reported_below s n')
           (common_below law rows stamps _ (in_first (λ j. (g.server s j).marks.reported) g.partitions n' l))
 
-  pub keeps_tidy : (s n : ℕ) → Kept k sites h g G nothing (on_server g s n (λ x. with_ok (server_tidy k x (safe_mark k g s)))).1
+  pub keeps_tidy : (s n : ℕ) → Kept k sites h g G nothing
+      (on_server g s n (λ x. with_ok (server_tidy k x (safe_mark k g s)))).1
   keeps_tidy s n = on_kept {A = ℕ} s n (λ x. with_ok (server_tidy k x (safe_mark k g s)))
-      (λ _ _. one_kept s n new frame (tidy_server law g v.frame.layout.few_sites v.frame.layout.some_partitions v.core s n))
+      (λ _ _. one_kept s n new frame (tidy_server law g v.frame.layout.few_sites v.frame.layout.some_partitions v.core s
+      n))
     where
       new : ServerState
       new = (server_tidy k (g.server s n) (safe_mark k g s)).1
@@ -180,7 +192,13 @@ module _ {k : Kind} (law : IsLawfulKind k) {sites : ℕ} {h : History} {g : Grou
           let f = v.frame.servers s n in
           let c = (tidied_law k (safe_mark k g s) (g.server s n).held).counts in
           let few = f.versions in
-          record { site_is = f.site_is; sites_is = f.sites_is; versions = omega arith; entries = f.entries; reading = f.reading }
+          record {
+            site_is = f.site_is;
+            sites_is = f.sites_is;
+            versions = omega arith;
+            entries = f.entries;
+            reading = f.reading;
+          }
 
   -- ---- a server issues an entry
 
@@ -199,7 +217,8 @@ module _ {k : Kind} (law : IsLawfulKind k) {sites : ℕ} {h : History} {g : Grou
     issued_waits e =
         ap (λ (z : ℕ). set2 (λ i m. (g.server i m).waiting) s n (issue_entry z srv.sites srv.waiting e))
         (v.frame.servers s n).site_is
-        ∙ ap (λ (z : ℕ). set2 (λ i m. (g.server i m).waiting) s n (issue_entry s z srv.waiting e)) (v.frame.servers s n).sites_is
+        ∙ ap (λ (z : ℕ). set2 (λ i m. (g.server i m).waiting) s n (issue_entry s z srv.waiting e))
+        (v.frame.servers s n).sites_is
 
     -- the last stamp, as the server and as the tables have it
     pub last_is : last_of srv ≡ last (λ i m. (g.server i m).marks.received) s n
@@ -224,7 +243,8 @@ module _ {k : Kind} (law : IsLawfulKind k) {sites : ℕ} {h : History} {g : Grou
           entries = issued_entries (Heartbeat t) room;
           reading = f.reading;
         })
-        (place_server law g v.frame.layout.few_sites v.frame.layout.some_partitions v.core s n (server_issue srv (Heartbeat t))
+        (place_server law g v.frame.layout.few_sites v.frame.layout.some_partitions v.core s n
+        (server_issue srv (Heartbeat t))
         (set2_same _ s n _ refl) (issued_received t) (set2_same _ s n _ refl) (set2_same _ s n _ refl)
         (issued_waits (Heartbeat t))
         (v.core.marks.stable_mark s n) (covers_self srv.marks.stable)
@@ -265,7 +285,8 @@ module _ {k : Kind} (law : IsLawfulKind k) {sites : ℕ} {h : History} {g : Grou
     not_to a _ = apart a
 
     -- the tables once the taker has become x and the sender has handed the entry over
-    taken_tables : (x : ServerState) {held : ℕ → ℕ → List Version} → set2 (λ i m. (g.server i m).held) to n x.held ≡ held →
+    taken_tables : (x : ServerState) {held : ℕ → ℕ → List Version}
+        → set2 (λ i m. (g.server i m).held) to n x.held ≡ held →
         x.marks.received ≡ with_entry taker.marks.received from (entry_stamp e)
         → x.marks.reported ≡ taker.marks.reported → x.marks.stable ≡ taker.marks.stable → x.waiting ≡ taker.waiting
         →
@@ -303,7 +324,8 @@ module _ {k : Kind} (law : IsLawfulKind k) {sites : ℕ} {h : History} {g : Grou
             ≡ (g.server i m).marks.stable
         stable_same i m = set2_cases (set2 g.server to n x) from n (server_hand_over sender to) i m
             (λ y. y.marks.stable ≡ (g.server i m).marks.stable)
-            (λ a b. ap (λ (z : ℕ). (g.server z n).marks.stable) (sym a) ∙ ap (λ (z : ℕ). (g.server i z).marks.stable) (sym b))
+            (λ a b. ap (λ (z : ℕ). (g.server z n).marks.stable) (sym a)
+            ∙ ap (λ (z : ℕ). (g.server i z).marks.stable) (sym b))
             (λ _. set2_cases g.server to n x i m (λ y. y.marks.stable ≡ (g.server i m).marks.stable)
             (λ a b. same-stable ∙ (ap (λ (z : ℕ). (g.server z n).marks.stable) (sym a)
             ∙ ap (λ (z : ℕ). (g.server i z).marks.stable) (sym b)))
@@ -355,7 +377,13 @@ module _ {k : Kind} (law : IsLawfulKind k) {sites : ℕ} {h : History} {g : Grou
           let f = v.frame.servers to n in
           let few = leb-false 32 (length (g.server to n).held) room in
           let more = length-append (g.server to n).held (w ∷ []) in
-          record { site_is = f.site_is; sites_is = f.sites_is; versions = omega arith; entries = f.entries; reading = f.reading }
+          record {
+            site_is = f.site_is;
+            sites_is = f.sites_is;
+            versions = omega arith;
+            entries = f.entries;
+            reading = f.reading;
+          }
 
   pub keeps_deliver : (from to n : ℕ) →
       Kept k sites h g G nothing (cond {A = Result Done Refusal × GroupState}

@@ -52,7 +52,8 @@ flat_map_in f x (z ∷ ys) y (inr i) j = in_right x (f z) (flat_map f ys) (flat_
 pub held_from : (g : GroupState) (s : ℕ) (w : Version) → Contains (versions_at g s) w
     → (n : ℕ) × (n < g.partitions) × InList w (g.server s n).held
 held_from g s w c =
-    let r = in_flat_map (λ (t : ServerState). t.held) w (tabulate (g.server s) g.partitions) (in_list (versions_at g s) w c) in
+    let r = in_flat_map (λ (t : ServerState). t.held) w (tabulate (g.server s) g.partitions)
+    (in_list (versions_at g s) w c) in
     let f = first_in (g.server s) g.partitions r.0 r.1 in
     (f.0, f.1, subst (λ (t : ServerState). InList w t.held) f.2 r.2)
 
@@ -66,7 +67,8 @@ pub showing_answer : (k : Kind) (g : GroupState) (i : ℕ) (o : Option Version) 
 showing_answer k g i None = refl
 showing_answer k g i (Some w) = refl
 
-module _ {k : Kind} (law : IsLawfulKind k) {sites : ℕ} {h : History} {g : GroupState} {G : Ghost} (v : Inv k sites h g G) where
+module _ {k : Kind} (law : IsLawfulKind k) {sites : ℕ} {h : History} {g : GroupState} {G : Ghost}
+    (v : Inv k sites h g G) where
   abbrev L : Shape
   L = shape g v.frame.layout.few_sites v.frame.layout.some_partitions
 
@@ -129,7 +131,8 @@ module _ {k : Kind} (law : IsLawfulKind k) {sites : ℕ} {h : History} {g : Grou
         (covers_from (k.floor heard.marks.stable) (full_mark k w) (covers_trans (floor_over law stable_mark) c))
 
     -- for each put in the session's past, the get shows it or a later one
-    pub shows_past : (p : Put) → p.key ≡ key → HasInPast h (of_session i) p → ShowsAsLate key (Ok (shown_option found)) p
+    pub shows_past : (p : Put) → p.key ≡ key → HasInPast h (of_session i) p
+        → ShowsAsLate key (Ok (shown_option found)) p
     shows_past p same_key past = go found get_latest
       where
         r : Reached k L (λ a b. (g.server a b).marks.received) G.log s (session_at g i).depends (session_at g i).knows p
@@ -147,7 +150,8 @@ module _ {k : Kind} (law : IsLawfulKind k) {sites : ℕ} {h : History} {g : Grou
 
         seen_itself : (r.version.source ≡ s) ⊎ Covers (session_at g i).knows (full_mark k r.version)
             → sees k heard r.version ≡ true
-        seen_itself (inl own) = or_left (eqb r.version.source heard.site) _ (eq-eqb _ _ (own ∙ sym (v.frame.servers s n).site_is))
+        seen_itself (inl own) =
+            or_left (eqb r.version.source heard.site) _ (eq-eqb _ _ (own ∙ sym (v.frame.servers s n).site_is))
         seen_itself (inr c) = seen_from r.version
             (covers_trans (join_right (k.floor stable) (k.floor knows))
             (covers_trans (floor_over law (v.core.sessions i l).knows_mark) c))
@@ -163,7 +167,8 @@ module _ {k : Kind} (law : IsLawfulKind k) {sites : ℕ} {h : History} {g : Grou
         passes : Passes (sees k heard) key x.other
         passes = (x.same_key ∙ key_is, seen x.how)
 
-        go : (o : Option Version) → IsLatest (sees k heard) key (g.server s n).held o → ShowsAsLate key (Ok (shown_option o)) p
+        go : (o : Option Version) → IsLatest (sees k heard) key (g.server s n).held o
+            → ShowsAsLate key (Ok (shown_option o)) p
         go None best = absurd (best x.other there passes)
         go (Some w) best = subst (λ (z : Put). IsAsLate (name_of w) z) r.named
             (as_late_trans (name_of w) (name_of x.other) (name_of r.version) (best.2 x.other there passes)
@@ -195,7 +200,10 @@ module _ {k : Kind} (law : IsLawfulKind k) {sites : ℕ} {h : History} {g : Grou
             (subst (λ (z : ℕ). InList w (g.server s z).held) (sym at_n) r.2)
 
         passes : Passes (sees k heard) key w
-        passes = (same, subst (λ (z : ℕ). sees k (informed_server k g (session_at g i) (z % g.partitions)) w ≡ true) same may)
+        passes = (
+          same,
+          subst (λ (z : ℕ). sees k (informed_server k g (session_at g i) (z % g.partitions)) w ≡ true) same may,
+        )
 
         go : (o : Option Version) → IsLatest (sees k heard) key (g.server s n).held o → shown_option o ≡ None → ⊥
         go None best f = best w (contained (g.server s n).held w held) passes
@@ -217,7 +225,8 @@ module _ {k : Kind} (law : IsLawfulKind k) {sites : ℕ} {h : History} {g : Grou
         )
 
   -- a get that is answered is a get of an open session
-  pub get_open : (rule : Rule) (i key : ℕ) (o : Option Shown) → (step rule k g (get i key)).0 ≡ Ok o → i < length g.sessions
+  pub get_open : (rule : Rule) (i key : ℕ) (o : Option Shown) → (step rule k g (get i key)).0 ≡ Ok o
+      → i < length g.sessions
   get_open rule i key o =
       cond_both {A = Result (Option Shown) Refusal × GroupState} (ltb i (length g.sessions)) _ (Err NoSession, g)
       (λ r. r.0 ≡ Ok o → i < length g.sessions)
@@ -239,7 +248,8 @@ module _ {k : Kind} (law : IsLawfulKind k) {sites : ℕ} {h : History} {g : Grou
       → (step rule k g (put i key kind amount)).0 ≡ Ok stamp →
       (i < length g.sessions) × (last_of (g.server (session_at g i).site (partition_of g key)) < stamp)
   put_above rule clock i key kind amount stamp =
-      cond_both {A = Result ℕ Refusal × GroupState} (ltb i (length g.sessions)) _ (Err NoSession, g) (λ r. r.0 ≡ Ok stamp → Good)
+      cond_both {A = Result ℕ Refusal × GroupState} (ltb i (length g.sessions)) _ (Err NoSession, g)
+      (λ r. r.0 ≡ Ok stamp → Good)
       (λ e. with_value (ltb-true _ _ e) (value_from kind amount)) (λ _ e. refusal e)
     where
       y : SessionState
@@ -257,7 +267,8 @@ module _ {k : Kind} (law : IsLawfulKind k) {sites : ℕ} {h : History} {g : Grou
       refusal : {why : Refusal} → ◌≡◌ {A = Result ℕ Refusal} (Err why) (Ok stamp) → Good
       refusal e = let z : ◌≡◌ {A = ℕ} 0 1 = cc in absurd (omega arith)
 
-      with_value : i < length g.sessions → (w : Result Value Refusal) → (put_value rule k g i key y w).0 ≡ Ok stamp → Good
+      with_value : i < length g.sessions → (w : Result Value Refusal) → (put_value rule k g i key y w).0 ≡ Ok stamp
+          → Good
       with_value l (Err why) = λ e. refusal e
       with_value l (Ok value) =
           cond_both {A = Result Version Refusal × ServerState} (is_table_full server.held) (Err TableFull, server) _

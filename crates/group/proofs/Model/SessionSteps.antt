@@ -48,7 +48,8 @@ use Rattle.group.proofs.Model.ServerSteps.{server_frames, issued_received, issue
 not_opened : (t : Ticket) (key i site : ℕ) (o : Option Shown) → read_by t key o ≡ session_opened i site → ⊥
 not_opened t key i site o e = let z : ◌≡◌ {A = ℕ} 0 1 = cc in omega arith
 
-not_wrote : (t : Ticket) (key i j kind amount stamp : ℕ) (o : Option Shown) → read_by t key o ≡ wrote i j kind amount stamp → ⊥
+not_wrote : (t : Ticket) (key i j kind amount stamp : ℕ) (o : Option Shown)
+    → read_by t key o ≡ wrote i j kind amount stamp → ⊥
 not_wrote t key i j kind amount stamp o e = let z : ◌≡◌ {A = ℕ} 0 1 = cc in omega arith
 
 not_got : (t : Ticket) (key i j : ℕ) (o p : Option Shown) → read_by t key o ≡ got i j p → ⊥
@@ -86,7 +87,8 @@ see_core {k} law {P} {G} g four some core i w l logged' had clear =
     (subst (λ (y : SessionState). Clear law L (λ s n. (g.server s n).marks.stable) y.site y.knows w) (sym same) clear)
     grown
 
-module _ {k : Kind} (law : IsLawfulKind k) {sites : ℕ} {h : History} {g : GroupState} {G : Ghost} (v : Inv k sites h g G) where
+module _ {k : Kind} (law : IsLawfulKind k) {sites : ℕ} {h : History} {g : GroupState} {G : Ghost}
+    (v : Inv k sites h g G) where
   abbrev L : Shape
   L = shape g v.frame.layout.few_sites v.frame.layout.some_partitions
 
@@ -113,7 +115,8 @@ module _ {k : Kind} (law : IsLawfulKind k) {sites : ℕ} {h : History} {g : Grou
           → cond (eqb i count) site (site_of h i) ≡ (session_at g' i).site
       known i l =
           set1_cases (site_of h) count site i (λ z. z ≡ (set1 (session_at g) count (new_session site) i).site)
-          (λ e. sym (set1_cases (session_at g) count (new_session site) i (λ y. y.site ≡ site) (λ _. refl) (λ ne. absurd (ne e))))
+          (λ e. sym (set1_cases (session_at g) count (new_session site) i (λ y. y.site ≡ site) (λ _. refl)
+          (λ ne. absurd (ne e))))
           (λ ne. v.hist.sites_known i (omega (arith, length-append g.sessions (new_session site ∷ [])))
           ∙ sym (ap (λ (y : SessionState). y.site) (set1_other (session_at g) count (new_session site) i ne)))
           ∙ sym (ap (λ (f : ℕ → SessionState). (f i).site) (get_d_push g.sessions (new_session site) (new_session 0)))
@@ -147,7 +150,8 @@ module _ {k : Kind} (law : IsLawfulKind k) {sites : ℕ} {h : History} {g : Grou
 
   -- ---- a put
 
-  module _ (i key kind amount : ℕ) (l : i < length g.sessions) (value : Value) (lawful : value_from kind amount ≡ Ok value) where
+  module _ (i key kind amount : ℕ) (l : i < length g.sessions) (value : Value)
+      (lawful : value_from kind amount ≡ Ok value) where
     abbrev x : SessionState
     x = session_at g i
 
@@ -179,7 +183,8 @@ module _ {k : Kind} (law : IsLawfulKind k) {sites : ℕ} {h : History} {g : Grou
     abbrev g2 : ℕ → GroupState
     g2 t = with_session (g1 t) i (session' t)
 
-    module _ (t : ℕ) (room : is_table_full srv.held ≡ false) (free : is_outbox_full srv.site srv.sites srv.waiting ≡ false)
+    module _ (t : ℕ) (room : is_table_full srv.held ≡ false)
+        (free : is_outbox_full srv.site srv.sites srv.waiting ≡ false)
         (new : last_of srv < t) (after : greatest (k.floor x.depends) < t) (small : t < 2 ^ 63) where
       abbrev G' : Ghost
       G' = record { log = ver t ∷ G.log; cut_of = G.cut_of; snap_site = G.snap_site }
@@ -245,7 +250,8 @@ module _ {k : Kind} (law : IsLawfulKind k) {sites : ℕ} {h : History} {g : Grou
       -- every received row has only risen
       risen : Rises (λ a b. (g.server a b).marks.received) (λ a b. ((g2 t).server a b).marks.received)
       risen a b = set2_cases g.server s n (server' t) a b (λ y. Covers y.marks.received (g.server a b).marks.received)
-          (λ e f. subst (λ (z : ℕ). Covers (with_entry srv.marks.received srv.site t) (g.server a z).marks.received) (sym f)
+          (λ e f. subst (λ (z : ℕ). Covers (with_entry srv.marks.received srv.site t) (g.server a z).marks.received)
+          (sym f)
           (subst (λ (z : ℕ). Covers (with_entry srv.marks.received srv.site t) (g.server z n).marks.received) (sym e)
           (entry_rises srv.marks.received srv.site t (omega arith))))
           (λ _. covers_self (g.server a b).marks.received)
@@ -267,7 +273,8 @@ module _ {k : Kind} (law : IsLawfulKind k) {sites : ℕ} {h : History} {g : Grou
           (v.core.pasts.of_session_lem i p q))
 
       core3 : Core k L (pasts_with_put (HasInPast h) i (name_of (ver t))) (tables k (g2 t)) G'
-      core3 = written_too i (ver t) (subst (λ (z : ℕ). i < z) (sym (length-set g.sessions i (session' t))) l) (inl refl) source
+      core3 = written_too i (ver t) (subst (λ (z : ℕ). i < z) (sym (length-set g.sessions i (session' t))) l) (inl refl)
+          source
           (subst (λ (z : ℕ). Had L (λ a b. ((g2 t).server a b).marks.received) z (ver t)) source
           (core2.logs.stamped (ver t) (inl refl)))
           (subst (λ (y : SessionState). Covers y.depends (full_mark k (ver t))) (sym same)
@@ -331,7 +338,8 @@ module _ {k : Kind} (law : IsLawfulKind k) {sites : ℕ} {h : History} {g : Grou
             servers = server_frames law v s n (server' t) (let f = v.frame.servers s n in record {
               site_is = f.site_is;
               sites_is = f.sites_is;
-              versions = (let few = leb-false 32 (length srv.held) room in omega (arith, length-append srv.held (ver t ∷ [])));
+              versions = (let few = leb-false 32 (length srv.held) room in
+                  omega (arith, length-append srv.held (ver t ∷ [])));
               entries = issued_entries law v s n in_s (Update (ver t)) free;
               reading = f.reading;
             });
@@ -430,7 +438,8 @@ module _ {k : Kind} (law : IsLawfulKind k) {sites : ℕ} {h : History} {g : Grou
         (record {
           inside = inv1.inside;
           depends_mark = inv1.depends_mark;
-          knows_mark = join_mark law (floor_mark law (v.core.marks.stable_mark y.site n).0) (floor_mark law inv.knows_mark.0);
+          knows_mark =
+              join_mark law (floor_mark law (v.core.marks.stable_mark y.site n).0) (floor_mark law inv.knows_mark.0);
           knows_below = subst (λ (z : ServerState). Below L (λ a b. (g1.server a b).marks.received) y.site
               z.marks.stable) (set2_here g.server y.site n heard) (raised1.marks.stable_below y.site n);
         })
@@ -455,7 +464,8 @@ module _ {k : Kind} (law : IsLawfulKind k) {sites : ℕ} {h : History} {g : Grou
     pub learn_opened : (j : ℕ) → WasOpened j h → j < length learnt.sessions
     learn_opened = still_opened v (length-set g.sessions i known)
 
-    pub learn_sites : (j : ℕ) → j < length learnt.sessions → site_of h j ≡ (session_at (learn k g i (session_at g i) n) j).site
+    pub learn_sites : (j : ℕ) → j < length learnt.sessions
+        → site_of h j ≡ (session_at (learn k g i (session_at g i) n) j).site
     learn_sites j lj =
         v.hist.sites_known j (subst (λ (z : ℕ). j < z) (length-set g.sessions i known) lj)
         ∙ sym (session_sites (with_server g (session_at g i).site n heard) i known l refl j)
@@ -491,7 +501,8 @@ module _ {k : Kind} (law : IsLawfulKind k) {sites : ℕ} {h : History} {g : Grou
       g1 : GroupState
       g1 = learn k g i (session_at g i) (partition_of g key)
 
-      found : i < length g.sessions → (o : Option Version) → IsLatest (sees k heard') key heard'.held o → Fine (show k g1 i o)
+      found : i < length g.sessions → (o : Option Version) → IsLatest (sees k heard') key heard'.held o
+          → Fine (show k g1 i o)
       found l None best = record {
         ghost = G;
         inv = record {
@@ -570,7 +581,8 @@ module _ {k : Kind} (law : IsLawfulKind k) {sites : ℕ} {h : History} {g : Grou
           logged' = had_there.0
 
           had : Had L (λ a b. (g1.server a b).marks.received) (session_at g1 i).site w
-          had = subst (λ (z : SessionState). Had L (λ a b. (g1.server a b).marks.received) z.site w) (sym here) had_there.2
+          had = subst (λ (z : SessionState). Had L (λ a b. (g1.server a b).marks.received) z.site w) (sym here)
+              had_there.2
 
           stable_mark : IsMark k heard'.marks.stable
           stable_mark = subst (λ (z : ServerState). IsMark k z.marks.stable) (set2_here g.server y.site n heard')
@@ -590,5 +602,6 @@ module _ {k : Kind} (law : IsLawfulKind k) {sites : ℕ} {h : History} {g : Grou
               (covers_true (k.floor heard'.marks.stable) (full_mark k w) c))
 
           clear : Clear law L (λ a b. (g1.server a b).marks.stable) (session_at g1 i).site (session_at g1 i).knows w
-          clear = subst (λ (z : SessionState). Clear law L (λ a b. (g1.server a b).marks.stable) z.site z.knows w) (sym here)
+          clear = subst (λ (z : SessionState). Clear law L (λ a b. (g1.server a b).marks.stable) z.site z.knows w)
+              (sym here)
               (clear' (or_cases (eqb w.source heard'.site) (is_covered k (k.floor heard'.marks.stable) w) best.1.1))

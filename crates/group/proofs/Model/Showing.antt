@@ -64,7 +64,8 @@ module _ {k : Kind} (law : IsLawfulKind k) (L : Shape) {P : Pasts} {T : Tables} 
     (ls : s < L.sites) (b : Below L T.received s m) (over : Covers m (T.safe s)) where
   -- whatever the cut covers is held, or a later one that the cut covers is
   cut_holds : (v : Version) → InList v G.log → v.key ≡ key → Covers m (full_mark k v) →
-      (w : Version) × InList w (T.held s (part L key)) × Passes (is_covered k m) key w × IsAsLate (name_of w) (name_of v)
+      (w : Version) × InList w (T.held s (part L key)) × Passes (is_covered k m) key w
+      × IsAsLate (name_of w) (name_of v)
   cut_holds v i e c = (
     x.other,
     subst (λ (z : ℕ). InList x.other (T.held s (part L z))) e x.there,

@@ -44,7 +44,8 @@ read_found k g key y =
     let x = session_at g y.session in
     latest_covered k (raised_server k (g.server x.site (partition_of g key)) (k.floor y.cut)) key (k.floor y.cut)
 
-module _ {k : Kind} (law : IsLawfulKind k) {sites : ℕ} {h : History} {g : GroupState} {G : Ghost} (v : Inv k sites h g G) where
+module _ {k : Kind} (law : IsLawfulKind k) {sites : ℕ} {h : History} {g : GroupState} {G : Ghost}
+    (v : Inv k sites h g G) where
   abbrev L : Shape
   L = shape g v.frame.layout.few_sites v.frame.layout.some_partitions
 
@@ -77,7 +78,8 @@ module _ {k : Kind} (law : IsLawfulKind k) {sites : ℕ} {h : History} {g : Grou
       shown : (y : SeatState) (o : Option Version)
           → IsLatest (is_covered k (k.floor y.cut)) key
           (g.server (session_at g y.session).site (partition_of g key)).held o →
-          ◌≡◌ {A = Result (Option Shown) Refusal} (Ok (shown_option o)) (Ok (Some u)) → WasPut h (put_shown key u) u.value
+          ◌≡◌ {A = Result (Option Shown) Refusal} (Ok (shown_option o)) (Ok (Some u))
+          → WasPut h (put_shown key u) u.value
       shown y None best e = let z : ◌≡◌ {A = ℕ} 0 1 = cc in absurd (omega arith)
       shown y (Some w) best e =
           let same : shown_of w ≡ u = cc in
@@ -106,7 +108,8 @@ module _ {k : Kind} (law : IsLawfulKind k) {sites : ℕ} {h : History} {g : Grou
       go (v.reads t key o (in_list h (read_by t key o) i))
       (v.reads t other (Some u) (in_list h (read_by t other (Some u)) j))
     where
-      b : Before k L (λ s n. (g.server s n).marks.received) (λ s n. (g.server s n).marks.stable) G.log (put_shown other u) p
+      b : Before k L (λ s n. (g.server s n).marks.received) (λ s n. (g.server s n).marks.stable) G.log
+          (put_shown other u) p
       b = v.core.pasts.of_put_lem (put_shown other u) p past
 
       -- the cut covers what stands before what it shows
@@ -132,7 +135,8 @@ module _ {k : Kind} (law : IsLawfulKind k) {sites : ℕ} {h : History} {g : Grou
           (best.3 b.reached.version b.reached.logged key_is c)
 
       go : ReadRight k G g.next_serial t key o → ReadRight k G g.next_serial t other (Some u) → ShowsAsLate key (Ok o) p
-      go r q = subst (λ (z : Option Shown). ShowsAsLate key (Ok z) p) (sym r.is) (late r.found r.best (below q.found q.is q.best))
+      go r q = subst (λ (z : Option Shown). ShowsAsLate key (Ok z) p) (sym r.is)
+          (late r.found r.best (below q.found q.is q.best))
 
 -- an open snapshot answers as right after its opening
 pub stays : {k : Kind} (law : IsLawfulKind k) (rule : Rule) (clock : IsLawfulRule rule) (sites : ℕ)

@@ -40,10 +40,12 @@ not_closed t u key o e = let z : ◌≡◌ {A = ℕ} 0 1 = cc in omega arith
 not_snapshot : (t u : Ticket) (key i : ℕ) (o : Option Shown) → read_by t key o ≡ snapshot_opened i u → ⊥
 not_snapshot t u key i o e = let z : ◌≡◌ {A = ℕ} 0 1 = cc in omega arith
 
-read_same : (t u : Ticket) (key j : ℕ) (o p : Option Shown) → read_by t key o ≡ read_by u j p → (t ≡ u) × (key ≡ j) × (o ≡ p)
+read_same : (t u : Ticket) (key j : ℕ) (o p : Option Shown) → read_by t key o ≡ read_by u j p
+    → (t ≡ u) × (key ≡ j) × (o ≡ p)
 read_same t u key j o p e = (cc, cc, cc)
 
-module _ {k : Kind} (law : IsLawfulKind k) {sites : ℕ} {h : History} {g : GroupState} {G : Ghost} (v : Inv k sites h g G) where
+module _ {k : Kind} (law : IsLawfulKind k) {sites : ℕ} {h : History} {g : GroupState} {G : Ghost}
+    (v : Inv k sites h g G) where
   abbrev L : Shape
   L = shape g v.frame.layout.few_sites v.frame.layout.some_partitions
 
@@ -60,12 +62,14 @@ module _ {k : Kind} (law : IsLawfulKind k) {sites : ℕ} {h : History} {g : Grou
       g' : GroupState
       g' = with_seat g t.seat None g.next_serial
 
-      seats' : t.seat < length g.seats → (b : ℕ) (y : SeatState) → seat_at g' b ≡ Some y → set1 (seat_at g) t.seat None b ≡ Some y
+      seats' : t.seat < length g.seats → (b : ℕ) (y : SeatState) → seat_at g' b ≡ Some y
+          → set1 (seat_at g) t.seat None b ≡ Some y
       seats' la b y e = sym (ap (λ (f : ℕ → Option SeatState). f b) (get_d_set g.seats t.seat None None la)) ∙ e
 
       -- what is open and not this snapshot is still open
       still : (y : SeatState) → seat_at g t.seat ≡ Some y → y.serial ≡ t.serial → t.seat < length g.seats →
-          (u : Ticket) → (u ≡ t → ⊥) × IsOpen u h → (z : SeatState) × (seat_at g' u.seat ≡ Some z) × (z.serial ≡ u.serial)
+          (u : Ticket) → (u ≡ t → ⊥) × IsOpen u h
+          → (z : SeatState) × (seat_at g' u.seat ≡ Some z) × (z.serial ≡ u.serial)
       still y there same la u (ne, op) =
           let o = v.hist.open_known u op in (
             o.0,
@@ -79,7 +83,8 @@ module _ {k : Kind} (law : IsLawfulKind k) {sites : ℕ} {h : History} {g : Grou
             o.2,
           )
 
-      closed : (y : SeatState) → seat_at g t.seat ≡ Some y → y.serial ≡ t.serial → Kept k sites h g G (snapshot_closed t) g'
+      closed : (y : SeatState) → seat_at g t.seat ≡ Some y → y.serial ≡ t.serial
+          → Kept k sites h g G (snapshot_closed t) g'
       closed y there same =
           let la = seat_inside g.seats t.seat y there in
           record {
@@ -261,12 +266,13 @@ module _ {k : Kind} (law : IsLawfulKind k) {sites : ℕ} {h : History} {g : Grou
 
           open' : (t : Ticket) → (t ≡ ticket) ⊎ IsOpen t h
               → (z : SeatState) × (seat_at g' t.seat ≡ Some z) × (z.serial ≡ t.serial)
-          open' t (inl e) = subst (λ (u : Ticket). (z : SeatState) × (seat_at g' u.seat ≡ Some z) × (z.serial ≡ u.serial)) (sym e) (
-            y,
-            ap (λ (f : ℕ → Option SeatState). f (lowest_free g.seats)) seats'
-                ∙ set1_here (seat_at g) (lowest_free g.seats) (Some y),
-            refl,
-          )
+          open' t (inl e) =
+              subst (λ (u : Ticket). (z : SeatState) × (seat_at g' u.seat ≡ Some z) × (z.serial ≡ u.serial)) (sym e) (
+                y,
+                ap (λ (f : ℕ → Option SeatState). f (lowest_free g.seats)) seats'
+                    ∙ set1_here (seat_at g) (lowest_free g.seats) (Some y),
+                refl,
+              )
           open' t (inr op) =
               let o = v.hist.open_known t op in (
                 o.0,
@@ -305,7 +311,8 @@ module _ {k : Kind} (law : IsLawfulKind k) {sites : ℕ} {h : History} {g : Grou
         → Best k G.log (G.cut_of y.serial) key o
     read_best o best = subst (λ (m : PerSite). Best k G.log m key o) seat.its_cut
         (best_read law L v.core y.cut s key (v.core.sessions y.session seat.known).inside cut_below
-        (safe_cut law g s (safe_rows_lem law g v.frame.layout.few_sites v.frame.layout.some_partitions v.core s) a y there refl) o
+        (safe_cut law g s (safe_rows_lem law g v.frame.layout.few_sites v.frame.layout.some_partitions v.core s) a y
+        there refl) o
         (subst (λ (m : PerSite). IsLatest (is_covered k m) key (g.server s n).held o)
         (law.floor_own y.cut cut_mark.0 cut_mark.1) best))
 
@@ -443,5 +450,6 @@ module _ {k : Kind} (law : IsLawfulKind k) {sites : ℕ} {h : History} {g : Grou
           (λ same. read_kept t.seat y e key t refl (eqb-true _ _ same)
           (latest_covered k (raised_server k (g.server (session_at g y.session).site (partition_of g key))
           (k.floor y.cut)) key (k.floor y.cut))
-          (latest_law (is_covered k (k.floor y.cut)) key (g.server (session_at g y.session).site (partition_of g key)).held))
+          (latest_law (is_covered k (k.floor y.cut)) key
+          (g.server (session_at g y.session).site (partition_of g key)).held))
           (λ _. refused_kept v)

@@ -13,7 +13,8 @@ use Rattle.servers.proofs.Elements.{InList}
 use Rattle.group.specs.Model.Pasts.{Pasts}
 use Rattle.group.proofs.Model.Rows.{entry_rises, stamps_at}
 use Rattle.group.proofs.Model.Lists.{in_left, in_end, in_push, set2, set2_cases}
-use Rattle.group.proofs.Model.Invariant.{Shape, part, Ghost, Tables, last, Chain, Had, QueueInv, StandsIn, HeldInv, Core}
+use Rattle.group.proofs.Model.Invariant.{Shape, part, Ghost, Tables, last, Chain, Had, QueueInv, StandsIn, HeldInv}
+use Rattle.group.proofs.Model.Invariant.{Core}
 use Rattle.group.proofs.Model.Effects.{with_entries, Rises, rises_same, rises_set, grown_same, had_rises}
 use Rattle.group.proofs.Model.Effects.{marks_received, session_received, cuts_received, pasts_rise}
 use Rattle.group.proofs.Model.Issuing.{chain_above, chain_le, receiving, receiving_cases}
@@ -30,7 +31,8 @@ handed_cases waits from to n j m s P here other =
     set2_cases waits from n (take_entry (waits from n) to) j m (λ q. P (q s))
     (λ a b. cond_both (eqb s to) (drop 1 (waits from n s)) (waits from n s) P
     (λ e. let c = eqb-true s to e in subst (λ (x : ℕ). P (drop 1 (waits from n x))) (sym c) (here a b c))
-    (λ e. subst (λ (x : ℕ). P (waits from x s)) b (subst (λ (x : ℕ). P (waits x m s)) a (other (λ _ _ c. eqb-false s to e c)))))
+    (λ e. subst (λ (x : ℕ). P (waits from x s)) b
+    (subst (λ (x : ℕ). P (waits x m s)) a (other (λ _ _ c. eqb-false s to e c)))))
     (λ ne. other (λ a b _. ne a b))
 
 -- what holds of a place of a table holds of an equal place
@@ -102,14 +104,16 @@ module _ {k : Kind} {L : Shape} {P : Pasts} {T : Tables} {G : Ghost} (h : Core k
       reach' v s src (inl had) = inl (had_rises L s v up had)
       reach' v s src (inr i) =
           handed_cases T.waits from to n v.source (part L v.key) s (λ q. Had L received' s v ⊎ InList (Update v) q)
-          (λ a b c. go a b c (subst (InList (Update v)) waiting (moved (λ x y z. InList (Update v) (T.waits x y z)) a b c i)))
+          (λ a b c. go a b c (subst (InList (Update v)) waiting
+          (moved (λ x y z. InList (Update v) (T.waits x y z)) a b c i)))
           (λ _. inr i)
         where
           go : v.source ≡ from → part L v.key ≡ n → s ≡ to → InList (Update v) (e ∷ rest)
               → Had L received' s v ⊎ InList (Update v) (drop 1 (T.waits from n to))
           go a b c (inl same) = inl (receiving_cases T.received to n from (entry_stamp e) s (part L v.key) v.source
               (four from lf) (four v.source src) (λ x. v.stamp ≤ x)
-              (λ _ _ _. let t : v.stamp ≡ entry_stamp e = ap entry_stamp same in omega arith) (λ no'. absurd (no' c b a)))
+              (λ _ _ _. let t : v.stamp ≡ entry_stamp e = ap entry_stamp same in omega arith)
+              (λ no'. absurd (no' c b a)))
           go a b c (inr j) = inr (subst (InList (Update v)) (sym left) j)
 
   -- The held versions afterwards: the old ones, and the entry's version if it is an update.
@@ -130,7 +134,8 @@ module _ {k : Kind} {L : Shape} {P : Pasts} {T : Tables} {G : Ghost} (h : Core k
             o.2 ∙ sym b,
             receiving_cases T.received to n from (entry_stamp e) s (part L v.key) v.source (four from lf)
                 (subst (λ (x : ℕ). x < 4) (sym o.1) (four from lf)) (λ x. v.stamp ≤ x)
-                (λ _ _ _. let t : v.stamp ≡ entry_stamp e = ap entry_stamp same in omega arith) (λ no'. absurd (no' a o.2 o.1)),
+                (λ _ _ _. let t : v.stamp ≡ entry_stamp e = ap entry_stamp same in omega arith)
+                (λ no'. absurd (no' a o.2 o.1)),
           )
 
       kept' : (v : Version) (s : ℕ) → s < L.sites → InList v G.log → Had L received' s v
@@ -182,7 +187,8 @@ module _ {k : Kind} {L : Shape} {P : Pasts} {T : Tables} {G : Ghost} (h : Core k
     };
     queues = take_queues;
     holds = holds';
-    marks = marks_received up (receiving_stamps T.received to n from (entry_stamp e) h.marks.received_stamps small) h.marks;
+    marks = marks_received up (receiving_stamps T.received to n from (entry_stamp e) h.marks.received_stamps small)
+        h.marks;
     sessions = λ i l. session_received up (h.sessions i l);
     seats = h.seats;
     cuts = cuts_received up h.cuts;
@@ -192,7 +198,8 @@ module _ {k : Kind} {L : Shape} {P : Pasts} {T : Tables} {G : Ghost} (h : Core k
   pub taken_beat : ((v : Version) → Update v ≡ e → ⊥)
       → Core k L P (with_entries T T.held (receiving T.received to n from (entry_stamp e))
       (handed_over T.waits from to n)) G
-  taken_beat no_update = taken T.held (take_holds T.held (λ v s m i. i) (λ v a. absurd (no_update v a)) (λ v s m i. inl i))
+  taken_beat no_update =
+      taken T.held (take_holds T.held (λ v s m i. i) (λ v a. absurd (no_update v a)) (λ v s m i. inl i))
 
   pub taken_update : (v : Version) → e ≡ Update v →
       Core k L P (with_entries T (set2 T.held to n (T.held to n ++ (v ∷ [])))
@@ -214,8 +221,10 @@ module _ {k : Kind} {L : Shape} {P : Pasts} {T : Tables} {G : Ghost} (h : Core k
           (λ _ _. subst (λ (u : Version). InList u (T.held to n ++ (v ∷ []))) (same w a) (in_end (T.held to n) v))
           (λ no'. absurd (no' refl refl))
 
-      cover : (w : Version) (s m : ℕ) → InList w (held' s m) → InList w (T.held s m) ⊎ ((Update w ≡ e) × (s ≡ to) × (m ≡ n))
+      cover : (w : Version) (s m : ℕ) → InList w (held' s m)
+          → InList w (T.held s m) ⊎ ((Update w ≡ e) × (s ≡ to) × (m ≡ n))
       cover w s m = set2_cases T.held to n (T.held to n ++ (v ∷ [])) s m
           (λ vs. InList w vs → InList w (T.held s m) ⊎ ((Update w ≡ e) × (s ≡ to) × (m ≡ n)))
-          (λ a b j. ⊎_elim (λ i. inl (rw (a, b) i)) (λ d. inr (ap Update d ∙ sym is, a, b)) (in_push w (T.held to n) v j))
+          (λ a b j. ⊎_elim (λ i. inl (rw (a, b) i)) (λ d. inr (ap Update d ∙ sym is, a, b))
+          (in_push w (T.held to n) v j))
           (λ _ j. inl j)

@@ -23,7 +23,8 @@ promises {k} law rule clock sites r G v = record {
   put_later = λ p q past _. put_later law v p q past;
   get_shows_past = λ i p past.
       let l = v.core.pasts.open_only i p past in
-      subst (λ a. ShowsAsLate p.key a p) (sym (get_answer law v i p.key l rule)) (shows_past law v i p.key l p refl past);
+      subst (λ a. ShowsAsLate p.key a p) (sym (get_answer law v i p.key l rule))
+      (shows_past law v i p.key l p refl past);
   snapshot_stays = stays law rule clock sites r G v;
   snapshot_whole = whole law v;
   sites_agree = λ quiet s t key ls lt a b. agree v quiet s t key (inside ls) (inside lt) a b;

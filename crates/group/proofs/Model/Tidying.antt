@@ -24,7 +24,12 @@ module _ (k : Kind) (vs : List Version) (safe : PerSite) where
 
   tidy_stands : (v : Version) → StandsIn k vs safe v → StandsIn k (versions_kept k safe vs) safe v
   tidy_stands v x = ⊎_elim
-      (λ i. record { other = x.other; there = in_list (versions_kept k safe vs) x.other i; same_key = x.same_key; how = x.how })
+      (λ i. record {
+        other = x.other;
+        there = in_list (versions_kept k safe vs) x.other i;
+        same_key = x.same_key;
+        how = x.how;
+      })
       (λ d. record {
         other = d.0;
         there = in_list (versions_kept k safe vs) d.0 d.1;

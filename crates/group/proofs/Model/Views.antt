@@ -88,7 +88,8 @@ module _ (k : Kind) (g : GroupState) where
 
 -- ---- sessions and seats
 
-pub session_here : (g : GroupState) (i : ℕ) (x : SessionState) → i < length g.sessions → session_at (with_session g i x) i ≡ x
+pub session_here : (g : GroupState) (i : ℕ) (x : SessionState) → i < length g.sessions
+    → session_at (with_session g i x) i ≡ x
 session_here g i x l = ap (λ (f : ℕ → SessionState). f i) (get_d_set g.sessions i x (new_session 0) l)
     ∙ set1_here (session_at g) i x
 

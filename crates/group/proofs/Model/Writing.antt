@@ -9,11 +9,13 @@ use Rattle.group.specs.Model.Events.{Put}
 use Rattle.group.specs.Model.Pasts.{Pasts, of_session, of_put, pasts_with_put}
 use Rattle.group.proofs.Model.Invariant.{Shape, part, Ghost, Tables, name_of, Had, Reached, Before, Core}
 
--- Session i has put v, depends on it already, and its pasts before were reached by v's mark and by the server's stable mark.
+-- Session i has put v, depends on it already, and its pasts before were reached by v's mark and by the server's stable
+-- mark.
 pub written_too : {k : Kind} {L : Shape} {P : Pasts} {T : Tables} {G : Ghost} (i : ℕ) (v : Version) → i < T.opened
     → InList v G.log → v.source ≡ (T.session i).site →
     Had L T.received (T.session i).site v → Covers (T.session i).depends (full_mark k v) →
-    ((p : Put) → P (of_session i) p → Reached k L T.received G.log v.source v.mark (T.stable v.source (part L v.key)) p) →
+    ((p : Put) → P (of_session i) p → Reached k L T.received G.log v.source v.mark (T.stable v.source (part L v.key)) p)
+    →
     Core k L P T G → Core k L (pasts_with_put P i (name_of v)) T G
 written_too {k = k} {L = L} {P = P} {T = T} {G = G} i v l logged source had dep before h = record {
   logs = h.logs;

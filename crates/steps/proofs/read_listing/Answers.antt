@@ -12,5 +12,6 @@ returns-clause-value g c =
 
 pub returns-clause-law : goal.returns-clause-law
 returns-clause-law g c =
-    law_read (g.R.Read.remaining c.args.reader.now) c.in_ok-script.script.items c.in_ok-list.field-0.items c.in_ok-script.ensures
+    law_read (g.R.Read.remaining c.args.reader.now) c.in_ok-script.script.items c.in_ok-list.field-0.items
+    c.in_ok-script.ensures
     (subst (λ bytes. IsListing bytes c.in_ok-list.field-0.items) c.deref.ensures.value c.in_ok-list.ensures.law)

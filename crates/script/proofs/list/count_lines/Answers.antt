@@ -29,7 +29,14 @@ returns-clause-count c =
     let enough = count_enough (length rest) (length bytes) false rest (omega arith)
     (omega (arith, ap length c.script_of-rest.ensures.bytes)) in
     let whole = lines_count (length bytes) (new_script bytes) in
-    omega (arith, none, c.lines.invariant, enough, whole, ap (count_from (length bytes) false) c.script_of-rest.ensures.bytes)
+    omega (
+      arith,
+      none,
+      c.lines.invariant,
+      enough,
+      whole,
+      ap (count_from (length bytes) false) c.script_of-rest.ensures.bytes,
+    )
 
 pub returns-clause-few : goal.returns-clause-few
 returns-clause-few c =

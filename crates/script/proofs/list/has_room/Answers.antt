@@ -8,4 +8,5 @@ pub returns-then-lines-bytes : goal.returns-then-lines-bytes
 returns-then-lines-bytes c =
     let bytes = c.args.bytes.now in
     let few = lines_few bytes in
-    le-leb (length bytes) (c.args.len / 96) (omega arith) ∙ sym (le-leb (96 * length (lines_of bytes)) c.args.len (omega arith))
+    le-leb (length bytes) (c.args.len / 96) (omega arith)
+    ∙ sym (le-leb (96 * length (lines_of bytes)) c.args.len (omega arith))

@@ -64,7 +64,8 @@ lines-preserved c =
           ∙ ap (λ xs. take end buffer ++ concat xs) (sym turn) ∙ c.lines.invariant.written;
       behind =
           put_drop buffer came.line left end len k within refl came.long came.stands
-          ∙ sym (drop-drop len end buffer) ∙ ap (drop len) c.lines.invariant.behind ∙ drop-drop len end c.args.buffer.now;
+          ∙ sym (drop-drop len end buffer) ∙ ap (drop len) c.lines.invariant.behind
+          ∙ drop-drop len end c.args.buffer.now;
       each = λ more-short.
           let line_short : length came.line ≤ 96 = omega (arith, came.long, c.write_next-end.ensures.short) in
           c.lines.invariant.each (subst (All IsShort) (sym turn)
@@ -79,7 +80,8 @@ none_to_come c = lines_none (script_state script_group c.lines.script)
     (eqb-true (length c.lines.script.rest.now) 0 (sym c.lines-test.ensures))
 
 -- and all lines of the script were to come
-all_to_come : (c : goal.After-lines) → lines_left (script_state script_group c.new-script.result) ≡ lines_of c.args.bytes.now
+all_to_come : (c : goal.After-lines) → lines_left (script_state script_group c.new-script.result)
+    ≡ lines_of c.args.bytes.now
 all_to_come c = ap lines_left c.new-script.ensures ∙ lines_new c.args.bytes.now
 
 -- so what is written is the listing

@@ -23,7 +23,8 @@ returns g c =
           (c.server.ensures ∙ at_numbers mid c.learn-place.result (session_at before c.args.session).site p
           c.learn-place.ensures.place)
           c.in-Some.ensures.value
-          (c.show.ensures ∙ ap (λ (t : ServerState). show k mid c.args.session (slice_get t.held index)) (sym c.server.ensures));
+          (c.show.ensures ∙ ap (λ (t : ServerState). show k mid c.args.session (slice_get t.held index))
+          (sym c.server.ensures));
       keeps = tt;
     }
 

@@ -16,5 +16,6 @@ returns g c =
     in
     record {
       step = step;
-      keeps = on_server_keeps (view self) _ c.args.site c.args.partition c.heartbeat.result (server_heartbeat rule) step;
+      keeps = on_server_keeps (view self) _ c.args.site c.args.partition c.heartbeat.result (server_heartbeat rule)
+          step;
     }

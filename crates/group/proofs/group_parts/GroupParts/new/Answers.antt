@@ -26,8 +26,8 @@ invariant_of-result g c =
     free seat = by_site (λ n. get_or {A = Option SeatState} (None ∷ None ∷ None ∷ None ∷ []) n None ≡ None) refl refl
         refl refl (λ _. refl) seat
 
--- each server of the layout is new for its own site, and there are no sessions and no open snapshots; such a group keeps
--- the promises
+-- each server of the layout is new for its own site, and there are no sessions and no open snapshots; such a group
+-- keeps the promises
 pub returns : goal.returns
 returns g c =
     let layout = c.args.layout in
@@ -40,7 +40,12 @@ returns g c =
     let is =
     whole _ _ _ _ _
     (at_made layout.sites _ _ _ _ _ _ _ _ _ _ _ _ _ _ _ _
-    (λ l. (one _ c.new.ensures.state, one _ c.new-2.ensures.state, one _ c.new-3.ensures.state, one _ c.new-4.ensures.state))
+    (λ l. (
+      one _ c.new.ensures.state,
+      one _ c.new-2.ensures.state,
+      one _ c.new-3.ensures.state,
+      one _ c.new-4.ensures.state,
+    ))
     (λ l. (
       two l _ c.new-5.ensures.state,
       two l _ c.new-6.ensures.state,
@@ -87,12 +92,19 @@ returns g c =
         (lt-ltb n first.sites (subst (λ sites. n < sites) (sym count) l)) in
         made all p n (ap (λ (q : PeersRecord). q.own) at) (ap (λ (q : PeersRecord). q.sites) at ∙ count)
 
-    whole : (sites partitions : ℕ) (server : ℕ → ℕ → ServerState) (sessions : List SessionState) (seats : List (Option SeatState))
+    whole : (sites partitions : ℕ) (server : ℕ → ℕ → ServerState) (sessions : List SessionState)
+        (seats : List (Option SeatState))
         → server ≡ (λ site partition. new_server site sites) → sessions ≡ [] → seats ≡ None ∷ None ∷ None ∷ None ∷ []
         → state_with (record { sites = sites; partitions = partitions; sessions = sessions; seats = seats; next = 0 })
         server ≡ new_group sites partitions
     whole sites partitions server sessions seats p q r =
-        ap (λ t. state_with (record { sites = sites; partitions = partitions; sessions = sessions; seats = seats; next = 0 }) t) p
+        ap (λ t. state_with (record {
+          sites = sites;
+          partitions = partitions;
+          sessions = sessions;
+          seats = seats;
+          next = 0;
+        }) t) p
         ∙ ap (λ t. state_with (record { sites = sites; partitions = partitions; sessions = t; seats = seats; next = 0 })
         (λ site partition. new_server site sites)) q
         ∙ ap (λ t. state_with (record { sites = sites; partitions = partitions; sessions = []; seats = t; next = 0 })

@@ -37,6 +37,11 @@ pub returns : goal.returns
 returns g c =
     let f : ℕ → PerSite = λ n. ((view c.args.self.now).server c.args.site n).marks.reported in
     let whole : c.loop-server.server-index ≡ (view c.args.self.now).partitions =
-    omega (arith, c.loop-server.auto.server-index-end, c.loop-server-test.false, c.servers_of-server-items.ensures.servers.0)
+    omega (
+      arith,
+      c.loop-server.auto.server-index-end,
+      c.loop-server-test.false,
+      c.servers_of-server-items.ensures.servers.0,
+    )
     in
     c.loop-server.invariant ∙ ap (tabulate f) whole

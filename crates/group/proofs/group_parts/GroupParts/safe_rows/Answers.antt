@@ -46,7 +46,8 @@ loop-seat-preserved g c =
       | in-Some w ↦
           subst Collected (sym w.rows-is) (
             cut_more before site seats i xs w.push.new.self.items w.in-Some.cut all here
-                (ap (cut_in before site) seat ∙ sym c.cut_of.ensures ∙ w.in-Some.is) w.push.ensures.items c.loop-seat.invariant.0,
+                (ap (cut_in before site) seat ∙ sym c.cut_of.ensures ∙ w.in-Some.is) w.push.ensures.items
+                c.loop-seat.invariant.0,
             omega (arith, w.push.ensures.len),
           )
       | in_default w ↦

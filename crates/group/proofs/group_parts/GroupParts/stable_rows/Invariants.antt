@@ -5,4 +5,5 @@ use Rattle.group.proofs.group_parts.GroupParts.stable_rows.Given as goal
 
 -- the rows of the partitions so far
 abbrev pub invariant-loop-server : goal.invariant-loop-server
-invariant-loop-server g l = l.rows.items ≡ tabulate (λ n. ((view l.self).server l.fn.site n).marks.stable) l.server-index
+invariant-loop-server g l =
+    l.rows.items ≡ tabulate (λ n. ((view l.self).server l.fn.site n).marks.stable) l.server-index

@@ -1,4 +1,5 @@
-use Rattle.std.proofs.Common.{◌≡◌, ℕ, ◌<◌, ◌≤◌, Bool, List, length, get_or, Option, IfSome, refl, sym, ap, ◌∙◌, subst, arith}
+use Rattle.std.proofs.Common.{◌≡◌, ℕ, ◌<◌, ◌≤◌, Bool, List, length, get_or, Option, IfSome, refl, sym, ap, ◌∙◌, subst}
+use Rattle.std.proofs.Common.{arith}
 use Rattle.std.proofs.lemmas.List.{get_or_default, get_or_read_under}
 use Rattle.std.proofs.lemmas.Bool.Decides.{nat_tests}
 use Rattle.servers.specs.Laws.{IsLatest}
@@ -67,6 +68,7 @@ returns g c =
     ∙ ap (latest test c.args.key) held in
     record {
       value = is;
-      within = subst (λ xs. IfSome c.loop-i.found (λ i. i < length xs)) held (is_within c.loop-i.found (length vs) there);
+      within = subst (λ xs. IfSome c.loop-i.found (λ i. i < length xs)) held
+          (is_within c.loop-i.found (length vs) there);
       law = lawful test c.args.key (versions_of c.args.self.now) _ is;
     }
