@@ -15,7 +15,7 @@ pub fn common_floor<K: MarkKind>(rows: &[Row]) -> K::Mark
     ensures value { K.meaning result ≡ common_floor K.kind rows.now }
     ensures greatest { IsGreatestCommon K.kind rows.now (K.meaning result) }
 {
-    lowered::<K>(top_mark::<K>(), rows)
+    meet_all::<K>(top_mark::<K>(), rows)
 }
 
 // The greatest mark: the top stamp at each entry.
@@ -25,8 +25,8 @@ fn top_mark<K: MarkKind>() -> K::Mark
     K::floor(Row::same(Stamp::top()))
 }
 
-// The greatest mark, lowered by each row of the run.
-fn lowered<K: MarkKind>(top: K::Mark, rows: &[Row]) -> K::Mark
+// The meet of the greatest mark and of each row of the run.
+fn meet_all<K: MarkKind>(top: K::Mark, rows: &[Row]) -> K::Mark
     requires { K.meaning top ≡ same top_stamp }
     ensures value { K.meaning result ≡ common_floor K.kind rows.now }
     ensures greatest { IsGreatestCommon K.kind rows.now (K.meaning result) }

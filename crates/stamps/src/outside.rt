@@ -22,7 +22,7 @@ pub fn stamp_from<C: ClockRule>(last: u64, reading: u64, dependency: u64) -> Res
 }
 
 // An answer as one signed number, for callers in other languages.
-fn signed(answer: Result<Stamp, Refusal>) -> i64
+fn signed_number(answer: Result<Stamp, Refusal>) -> i64
     ensures { result ≡ signed_number answer }
 {
     match answer {
@@ -35,7 +35,7 @@ fn signed(answer: Result<Stamp, Refusal>) -> i64
 pub fn signed_stamp<C: ClockRule>(last: u64, reading: u64, dependency: u64) -> i64
     ensures { result ≡ signed_number (stamp_from C.answer last reading dependency) }
 {
-    signed(stamp_from::<C>(last, reading, dependency))
+    signed_number(stamp_from::<C>(last, reading, dependency))
 }
 
 /// The floor of four numbers as a row. `Unlawful` if one of them is no stamp.

@@ -3,7 +3,7 @@ use Rattle.std.specs.List.{AllByRecursion}
 use Rattle.stamps.specs.Rows.{HasStamps}
 use Rattle.stamps.specs.CommonFloors.{common_floor, IsGreatestCommon}
 use Rattle.stamps.proofs.CommonFloors.{all_stamps-take, common_floor-take, common_floor_greatest}
-use Rattle.stamps.proofs.common_floor.lowered.Goals as goal
+use Rattle.stamps.proofs.common_floor.meet_all.Goals as goal
 
 pub loop-row-init : goal.loop-row-init
 loop-row-init g c = record { within = omega arith; stamps = tt; value = c.requires }

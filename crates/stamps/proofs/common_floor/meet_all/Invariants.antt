@@ -2,7 +2,7 @@ use Rattle.std.proofs.Common.{◌≡◌, ◌≤◌, length, take}
 use Rattle.std.specs.List.{AllByRecursion}
 use Rattle.stamps.specs.Rows.{HasStamps}
 use Rattle.stamps.specs.CommonFloors.{common_floor}
-use Rattle.stamps.proofs.common_floor.lowered.Given as goal
+use Rattle.stamps.proofs.common_floor.meet_all.Given as goal
 
 abbrev pub invariant-loop-row : goal.invariant-loop-row
 invariant-loop-row g l =
