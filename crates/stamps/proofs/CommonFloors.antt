@@ -44,7 +44,7 @@ all_cover_below (r ∷ rs) x y h a = (covers_trans r x y a.0 h, all_cover_below 
 floor_stamps : (k : Kind) → IsLawfulKind k → (r : PerSite) → HasStamps r → HasStamps (k.floor r)
 floor_stamps k l r s = let b = l.floor_below r s in (omega arith, omega arith, omega arith, omega arith)
 
-common_floor_stamps : (k : Kind) → IsLawfulKind k → (rs : List PerSite) → AllByRecursion HasStamps rs
+pub common_floor_stamps : (k : Kind) → IsLawfulKind k → (rs : List PerSite) → AllByRecursion HasStamps rs
     → HasStamps (common_floor k rs)
 common_floor_stamps k l [] a = (lit< tt, lit< tt, lit< tt, lit< tt)
 common_floor_stamps k l (r ∷ rs) a =

@@ -1,6 +1,7 @@
 //! A row: a stamp for each site number.
 ghost use Rattle.std.specs.Prelude.{◌≡◌};
-ghost use Rattle.stamps.specs.Rows.{site_list, row_of, at, same, only, with_entry, covers, join, meet, greatest, least};
+ghost use Rattle.stamps.specs.Rows.{site_list, row_of, at, same, only, with_entry, covers, join, meet, greatest};
+ghost use Rattle.stamps.specs.Rows.{HasStamps, least};
 ghost use Rattle.stamps.specs.Checks.{checked_row};
 
 use crate::refusal::Refusal;
@@ -76,7 +77,8 @@ impl Row {
 
     /// The four entries as plain numbers, by site number.
     pub fn entries(&self) -> [u64; 4]
-        ensures { result ≡ site_list self.now }
+        ensures value { result ≡ site_list self.now }
+        ensures stamps { HasStamps self.now }
     {
         let [a, b, c, d] = self.entries;
         [a.value(), b.value(), c.value(), d.value()]

@@ -1,5 +1,5 @@
 //! The number of a site.
-ghost use Rattle.std.specs.Prelude.{◌≡◌};
+ghost use Rattle.std.specs.Prelude.{◌≡◌, ◌<◌};
 ghost use Rattle.stamps.specs.Checks.{checked_site};
 
 use crate::refusal::Refusal;
@@ -41,7 +41,8 @@ impl TryFrom<u8> for Site {
 impl Site {
     /// The number, from 0 to 3.
     pub fn number(self) -> u8
-        ensures { result ≡ self }
+        ensures value { result ≡ self }
+        ensures below { result < 4 }
     {
         self.number
     }

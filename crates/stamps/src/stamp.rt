@@ -72,7 +72,8 @@ impl Stamp {
 
     /// The whole number, below 2^63.
     pub fn value(self) -> u64
-        ensures { result ≡ self }
+        ensures value { result ≡ self }
+        ensures below { result < 2 ^ 63 }
     {
         self.value
     }
