@@ -1,5 +1,5 @@
 //! The entries that other sites have still to take, in order of issue.
-ghost use Rattle.std.specs.Prelude.{◌≡◌, ◌+◌, ◌-◌, ◌≤◌, false, length, drop};
+ghost use Rattle.std.specs.Prelude.{◌≡◌, ◌+◌, ◌-◌, ◌≤◌, ⊤, false, length, drop};
 ghost use Rattle.stamps.specs.Rows.{greatest};
 ghost use Rattle.servers.specs.Others.{IsOthersOnly};
 ghost use Rattle.servers.specs.Peers.{IsInLayout};
@@ -9,6 +9,7 @@ use crate::entry::Entry;
 use crate::peers::Peers;
 use arrayvec::ArrayVec;
 use stamps::site::Site;
+use std::alloc::AllocError;
 
 /// No site has more than this many entries to take.
 pub const MOST_ENTRIES: usize = 16;
@@ -23,6 +24,25 @@ pub(crate) struct Outbox {
     ghost layout: { IsInLayout peers.own peers.sites },
     ghost others: { IsOthersOnly peers.own peers.sites left },
     ghost needed: { greatest left ≡ length entries.items },
+}
+
+// By hand: it has ghost fields.
+impl Clone for Outbox {
+    ghost is_clone = { λ s r. (r.entries.items ≡ s.entries.items) × (r.left ≡ s.left) × (r.peers ≡ s.peers) };
+
+    ghost is_infallible = { λ _. ⊤ };
+
+    fn clone(&self) -> Result<Self, AllocError> {
+        let mut entries = ArrayVec::new();
+        entries
+            .try_extend_from_slice(self.entries.as_slice())
+            .unwrap();
+        Ok(Outbox {
+            entries,
+            left: self.left,
+            peers: self.peers,
+        })
+    }
 }
 
 impl Outbox {

@@ -11,6 +11,7 @@ use std::marker::{Model, PhantomData};
 // of the latest entry taken from there, and the greatest stamp at a site that the layout lacks.
 /// A server: its clock, its marks, the versions that it holds and its outbox, under a clock rule and a kind of mark.
 #[derive(Drop)]
+#[derive_where(Clone)]
 pub struct Server<C: ClockRule, K: MarkKind> {
     reading: Reading,
     received: Row,

@@ -15,7 +15,7 @@ use needed::Needed;
 /// A server holds at most this many versions.
 pub const MOST_VERSIONS: usize = 32;
 
-#[derive(Drop)]
+#[derive(Clone, Drop)]
 pub(crate) struct VersionTable {
     versions: ArrayVec<Version, MOST_VERSIONS>,
 }

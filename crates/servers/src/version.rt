@@ -36,7 +36,8 @@ impl Version {
     pub(crate) fn is_later(&self, other: &Version) -> bool
         ensures { result ≡ is_later self.now other.now }
     {
-        (self.stamp(), self.source) > (other.stamp(), other.source)
+        let (stamp, others) = (self.stamp(), other.stamp());
+        stamp > others || stamp == others && self.source > other.source
     }
 
     /// The mark of the version and of what its writer depended on: whoever has seen it depends on these.

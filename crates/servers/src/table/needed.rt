@@ -14,6 +14,7 @@ pub(crate) struct Needed<'a, K: MarkKind> {
 
 impl<'a, K: MarkKind> Needed<'a, K> {
     // Whether a version of the table replaces the item.
+    #[inline(never)]
     pub(crate) fn is_outdated(&self, item: &Version) -> bool
         ensures { result
             ≡ is_outdated K.kind (K.meaning self.now.safe) self.now.versions.now item.now }
