@@ -9,6 +9,7 @@ ghost use Rattle.group.specs.Groups.{view};
 ghost use Rattle.std.specs.Prelude.{◌≡◌, IfOk, OnErr};
 
 use crate::group_parts::GroupParts;
+pub use crate::group_parts::MOST_SESSIONS;
 use crate::layout::Layout;
 use crate::shown::Shown;
 use crate::ticket::Ticket;

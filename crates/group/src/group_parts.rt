@@ -11,7 +11,7 @@ use stamps::clock_rule::ClockRule;
 use stamps::mark_kind::MarkKind;
 
 /// How many sessions may be opened.
-pub(crate) const MOST_SESSIONS: usize = 8;
+pub const MOST_SESSIONS: usize = 8;
 
 // Its calls take plain numbers, and refuse those that the layout lacks.
 //

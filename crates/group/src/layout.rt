@@ -9,7 +9,7 @@ use stamps::site::Site;
 use std::marker::Model;
 
 /// Two counts that nobody has checked.
-#[derive(Debug, PartialEq, Eq, Drop)]
+#[derive(Clone, Debug, PartialEq, Eq, Drop)]
 pub struct Draft {
     /// How many sites; a layout has 2 to 4.
     pub sites: u8,
