@@ -7,17 +7,21 @@ use crate::command::Command;
 use group::layout::{Draft, Layout};
 use stamps::refusal::Refusal;
 
-/// A clock rule.
-#[derive(Clone, Copy)]
-pub(crate) enum Clock {
+/// A clock rule that is built.
+#[derive(Clone, Copy, Debug, PartialEq, Eq)]
+pub enum Clock {
+    /// The first stamp of the reading.
     Raw,
+    /// The hybrid logical clock.
     Hybrid,
 }
 
-/// A kind of mark: one stamp for all sites, or a stamp for each.
-#[derive(Clone, Copy)]
-pub(crate) enum Marks {
+/// A kind of mark that is built.
+#[derive(Clone, Copy, Debug, PartialEq, Eq)]
+pub enum Marks {
+    /// One stamp for all sites.
     One,
+    /// A stamp for each site.
     Each,
 }
 
@@ -29,7 +33,7 @@ pub(crate) struct Choice {
     pub(crate) marks: Marks,
 }
 
-// The clock rule of a letter.
+/// The clock rule of a letter. `BadLayout` if it is neither R nor H.
 impl TryFrom<char> for Clock {
     type Error = Refusal;
 
@@ -44,7 +48,7 @@ impl TryFrom<char> for Clock {
     }
 }
 
-// The kind of mark of a letter.
+/// The kind of mark of a letter. `BadLayout` if it is neither O nor E.
 impl TryFrom<char> for Marks {
     type Error = Refusal;
 

@@ -3,7 +3,7 @@
 
 pub mod answer;
 pub mod any_group;
-mod choice;
+pub mod choice;
 pub mod command;
 pub mod line;
 pub mod list;
