@@ -1,5 +1,5 @@
 // Which layouts pass the check, and which server a call reaches.
-use group::group::Group;
+use group::group::{Group, MOST_SESSIONS};
 use group::layout::Draft;
 use stamps::hybrid::Hybrid;
 use stamps::one::One;
@@ -18,6 +18,18 @@ fn layouts_at_the_edges(rt: HostRuntime) {
     assert_eq!(rt; refusal_of(2, 5), Some(Refusal::BadLayout));
     assert_eq!(rt; refusal_of(2, 1), None);
     assert_eq!(rt; refusal_of(4, 4), None);
+}
+
+// A draft's clone is checked apart from it.
+#[test]
+fn a_draft_can_be_cloned(rt: HostRuntime) -> Result<(), Fail> {
+    let draft = Draft {
+        sites: 3,
+        partitions: 2,
+    };
+    let copy = draft.clone()?;
+    assert_eq!(rt; draft.check()?, copy.check()?);
+    Ok(())
 }
 
 fn group_of(sites: u8, partitions: u8) -> Result<Group<Hybrid, One>, Refusal> {
@@ -46,5 +58,15 @@ fn a_call_moves_one_server_alone(rt: HostRuntime) -> Result<(), Fail> {
     assert_eq!(rt; group.lead(1, 1), Ok(0));
     group.heartbeat(0, 1)?;
     assert_eq!(rt; group.lead(0, 1), Ok(0));
+    Ok(())
+}
+
+#[test]
+fn a_group_has_so_many_sessions(rt: HostRuntime) -> Result<(), Fail> {
+    let mut group = group_of(2, 1)?;
+    for number in 0..MOST_SESSIONS {
+        assert_eq!(rt; group.open_session(1)? as usize, number);
+    }
+    assert_eq!(rt; group.open_session(1), Err(Refusal::NoneFree));
     Ok(())
 }

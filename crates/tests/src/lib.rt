@@ -1,6 +1,7 @@
 //! Tests of all crates, through what they make public.
 #![tactic(auto)]
 
+mod callers;
 #[cfg(test)]
 mod groups;
 #[cfg(test)]

@@ -50,6 +50,7 @@ fn layouts_have_2_to_4_sites(rt: HostRuntime) -> Result<(), Fail> {
     assert_eq!(rt; Peers::new(first, 2)?.sites(), 2);
     assert_eq!(rt; Peers::new(third, 2).err(), Some(Refusal::NotInLayout));
     assert_eq!(rt; Peers::new(third, 4)?.own().number(), 2);
+    assert_eq!(rt; Peers::new(third, 4)?.sites(), 4);
     assert_eq!(rt; Peers::new(third, 5).err(), Some(Refusal::BadLayout));
     Ok(())
 }
@@ -123,6 +124,24 @@ fn an_outbox_holds_16_entries(rt: HostRuntime) -> Result<(), Fail> {
         put_price(&mut server, 1, 5).err(),
         Some(Refusal::OutboxFull)
     );
+    Ok(())
+}
+
+// A clone has what its server has, and goes on apart from it.
+#[test]
+fn a_clone_goes_on_apart(rt: HostRuntime) -> Result<(), Fail> {
+    let mut server = hybrid_server(0)?;
+    server.tell(100)?;
+    put_price(&mut server, 1, 5)?;
+    let mut copy = server.clone()?;
+    assert_eq!(rt; copy.versions(), server.versions());
+    assert_eq!(rt; copy.lead(), 0);
+    let taker = Site::try_from(1)?;
+    copy.hand_over(taker);
+    assert_eq!(rt; copy.next_for(taker).is_none(), true);
+    assert_eq!(rt; server.next_for(taker).is_none(), false);
+    put_price(&mut copy, 2, 5)?;
+    assert_eq!(rt; (copy.versions().len(), server.versions().len()), (2, 1));
     Ok(())
 }
 
